@@ -1,0 +1,41 @@
+-- The warnings: each stands for the answer that leniency turned into it, and has that answer's number. Assumes nothing.
+use Prim.Native.Nat.{ℕ, _+_}
+use lib.Dec.{leb}
+use lib.ListN.{set, replicate}
+use Rattle.lists.specs.Cases.{pick}
+use Rattle.answers.specs.declared.notices.WarningKind.{WarningKind}
+use Rattle.answers.specs.declared.notices.WarningKind.the-variants as warning
+use Rattle.answers.specs.declared.notices.Warning.{Warning}
+use Rattle.answers.specs.declared.notices.Warnings.{Warnings}
+use Rattle.answers.specs.declared.notices.ParseWarnings.{ParseWarnings}
+
+-- 0 in an unused place
+abbrev pub warningNumber : WarningKind → ℕ
+warningNumber warning.Nothing = 0
+warningNumber warning.BadCrc = 3
+warningNumber warning.BadTrailer = 4
+warningNumber (warning.AmbiguousCalibration chosen) = 5
+warningNumber (warning.UnverifiedKeystream bv) = 6
+warningNumber (warning.LowConfidenceSector sector peak runner) = 7
+warningNumber warning.UnverifiedDirectory = 8
+warningNumber warning.UnknownPrelude = 9
+warningNumber (warning.SlotDirectoryTruncated found expected) = 10
+warningNumber warning.AmbiguousSlotDirectory = 11
+warningNumber (warning.SlotOffsetsInDirectory dropped) = 12
+
+abbrev pub blankWarning : Warning
+blankWarning = record { page = 0; kind = warning.Nothing }
+
+-- the warnings of a decoding, ten at most; a full table stays as it is
+abbrev pub noWarnings : Warnings
+noWarnings = record { items = replicate 10 blankWarning; len = 0 }
+
+unfoldable pub withWarning : Warnings → ℕ → WarningKind → Warnings
+withWarning t page kind = pick (leb 10 (t .len)) t (record { items = set (t .items) (t .len) (record { page = page; kind = kind }); len = t .len + 1 })
+
+-- the warnings of a parse: room for 386
+unfoldable pub noParseWarnings : ParseWarnings
+noParseWarnings = record { items = replicate 386 blankWarning; len = 0 }
+
+unfoldable pub withParseWarning : ParseWarnings → ℕ → WarningKind → ParseWarnings
+withParseWarning t page kind = pick (leb 386 (t .len)) t (record { items = set (t .items) (t .len) (record { page = page; kind = kind }); len = t .len + 1 })

@@ -1,0 +1,150 @@
+// The answers, each with its number and the values of document 01's table.
+ghost use mathlib.Core.Path.{_≡_};
+ghost use Rattle.answers.specs.Answers.{numberOf, isAccepted, reasonNumber, noBvs, withBv};
+
+// Why slot-like data is no directory.
+pub enum Reason {
+    CountBelowFour,
+    FewerThanEightLive,
+    Unconfirmed,
+}
+
+impl Reason {
+    pub fn number(self) -> u8
+        ensures { λ r. ⌜ r ≡ reasonNumber self ⌝ }
+    {
+        match self {
+            Reason::CountBelowFour => 1,
+            Reason::FewerThanEightLive => 2,
+            Reason::Unconfirmed => 3,
+        }
+    }
+}
+
+// What became of a page, a replacement, a row or a line. The candidates of an ambiguous calibration stand beside it.
+pub enum Answer {
+    Accepted,
+    WrongPageLength(usize),
+    WrongBufferLength(usize),
+    BadCrc {
+        page: u64,
+        stored: u32,
+        computed: u32,
+    },
+    BadTrailer(u64),
+    AmbiguousCalibration(u64),
+    KeystreamUnverified {
+        page: u64,
+        bv: u8,
+    },
+    LowConfidenceKeystream {
+        page: u64,
+        sector: u8,
+        peak: u16,
+        runner_up: u16,
+    },
+    NoSlotDirectory {
+        page: u64,
+        reason: Reason,
+    },
+    UnknownPrelude(u64),
+    SlotDirectoryTruncated {
+        page: u64,
+        found: usize,
+        expected: usize,
+        stop: usize,
+    },
+    AmbiguousSlotDirectory(u64),
+    SlotOffsetInDirectory {
+        page: u64,
+        offset: usize,
+        end: usize,
+    },
+    BadMagic(u32),
+    BadReplacement(usize),
+    TooManyCandidates(u64),
+    NoSuchRow(usize),
+    MalformedLine,
+}
+
+impl Answer {
+    // Document 01's number of the answer.
+    pub fn number(self) -> u8
+        ensures { λ r. ⌜ r ≡ numberOf self ⌝ }
+    {
+        match self {
+            Answer::Accepted => 0,
+            Answer::WrongPageLength(_) => 1,
+            Answer::WrongBufferLength(_) => 2,
+            Answer::BadCrc {
+                page: _,
+                stored: _,
+                computed: _,
+            } => 3,
+            Answer::BadTrailer(_) => 4,
+            Answer::AmbiguousCalibration(_) => 5,
+            Answer::KeystreamUnverified { page: _, bv: _ } => 6,
+            Answer::LowConfidenceKeystream {
+                page: _,
+                sector: _,
+                peak: _,
+                runner_up: _,
+            } => 7,
+            Answer::NoSlotDirectory { page: _, reason: _ } => 8,
+            Answer::UnknownPrelude(_) => 9,
+            Answer::SlotDirectoryTruncated {
+                page: _,
+                found: _,
+                expected: _,
+                stop: _,
+            } => 10,
+            Answer::AmbiguousSlotDirectory(_) => 11,
+            Answer::SlotOffsetInDirectory {
+                page: _,
+                offset: _,
+                end: _,
+            } => 12,
+            Answer::BadMagic(_) => 13,
+            Answer::BadReplacement(_) => 14,
+            Answer::TooManyCandidates(_) => 15,
+            Answer::NoSuchRow(_) => 16,
+            Answer::MalformedLine => 17,
+        }
+    }
+
+    // Whether nothing was refused.
+    pub fn accepted(self) -> bool
+        ensures { λ r. ⌜ r ≡ isAccepted self ⌝ }
+    {
+        self.number() == 0
+    }
+}
+
+// Values of bv: the candidates of an ambiguous calibration, ascending.
+pub struct Bvs {
+    pub items: [u8; 8],
+    pub len: usize,
+}
+
+impl Bvs {
+    pub fn none() -> Self
+        ensures { λ r. ⌜ r ≡ noBvs ⌝ }
+    {
+        let items = [0u8; 8];
+        Bvs { items, len: 0 }
+    }
+
+    // One value more; a full table stays as it is.
+    pub fn with(self, bv: u8) -> Self
+        ensures { λ r. ⌜ r ≡ withBv self bv ⌝ }
+    {
+        let at = self.len;
+        if 8 <= at {
+            return self;
+        }
+        let mut next = self;
+        next.items[at] = bv;
+        next.len = at + 1;
+        next
+    }
+}

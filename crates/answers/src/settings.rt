@@ -1,0 +1,72 @@
+// What a reader may relax, and from which row count on the row-count test counts.
+ghost use mathlib.Core.Path.{_≡_};
+ghost use Rattle.lists.specs.Bytes.{hasBit};
+ghost use Rattle.answers.specs.Settings.{leniencyOf, optionsOf};
+
+// The checks that are relaxed. Other bits mean nothing.
+pub struct Leniency {
+    pub bits: u8,
+}
+
+impl Leniency {
+    // Take a bv that nothing confirms, and sectors whose step is in doubt.
+    pub const KEYSTREAM: u8 = 1;
+
+    // Take a slot directory that no prelude confirms.
+    pub const DIRECTORY: u8 = 2;
+
+    // Take pages that fail their CRC or trailer check.
+    pub const INTEGRITY: u8 = 4;
+
+    pub fn new(bits: u8) -> Self
+        ensures { λ r. ⌜ r ≡ leniencyOf bits ⌝ }
+    {
+        Leniency { bits }
+    }
+
+    pub fn keystream(self) -> bool
+        ensures { λ r. ⌜ r ≡ hasBit (self .bits) 1 ⌝ }
+    {
+        self.bits / Leniency::KEYSTREAM % 2 == 1
+    }
+
+    pub fn directory(self) -> bool
+        ensures { λ r. ⌜ r ≡ hasBit (self .bits) 2 ⌝ }
+    {
+        self.bits / Leniency::DIRECTORY % 2 == 1
+    }
+
+    pub fn integrity(self) -> bool
+        ensures { λ r. ⌜ r ≡ hasBit (self .bits) 4 ⌝ }
+    {
+        self.bits / Leniency::INTEGRITY % 2 == 1
+    }
+}
+
+// The leniency, and T.
+pub struct Options {
+    pub leniency: Leniency,
+    pub min_trailer_count: u8,
+}
+
+impl Options {
+    // The Rust's T: the pairs (1, 0) and (2, 0) are the commonest in page data, so a match on them says little.
+    pub const MIN_TRAILER_COUNT: u8 = 4;
+
+    pub fn new(bits: u8, min_trailer_count: u8) -> Self
+        ensures { λ r. ⌜ r ≡ optionsOf bits «min_trailer_count» ⌝ }
+    {
+        let leniency = Leniency { bits };
+        Options {
+            leniency,
+            min_trailer_count,
+        }
+    }
+
+    // Nothing relaxed, and the Rust's T.
+    pub fn strict() -> Self
+        ensures { λ r. ⌜ r ≡ optionsOf 0 4 ⌝ }
+    {
+        Options::new(0, Options::MIN_TRAILER_COUNT)
+    }
+}
