@@ -1,0 +1,60 @@
+-- `crc::octets` meets its contract: the register at each turn, with the octets left, comes to the same. Assumes nothing.
+use mathlib.Core.Path.{_≡_, refl, sym, ap, _∙_}
+use Prim.Native.Nat.{ℕ, _+_, _-_, _≤_, _<_}
+use native.Mathlib.Omega.{arith}
+use borrow.Author.Needs.{needs}
+use denote.Ref.{now}
+use lib.ListN.{length, getD, drop, drop-of-length-le}
+use Rattle.crc.specs.Register.{registerAfter}
+use Rattle.crc.proofs.Taken.{octet-in, register-none}
+use Rattle.crc.proofs.register.after_octets.Statement.{statement}
+use Rattle.crc.proofs.register.after_octets.Tie as tie
+
+abbrev Inv-loop : tie.InvT-loop
+Inv-loop c s i r₀ k₀ r k = (k ≤ length s) × (registerAfter r (drop k s) ≡ registerAfter c (drop i s))
+
+abbrev μ-loop : tie.MeasureT-loop
+μ-loop c s i r₀ k₀ r k = length s - k
+
+loop-holds : tie.Need-loop-holds Inv-loop μ-loop
+loop-holds c = (c .before .pre, refl)
+
+shared-slice-read-after-octet : tie.Need-shared-slice-read-after-octet Inv-loop μ-loop
+shared-slice-read-after-octet c = search needs
+
+after-octet-requires : tie.Need-after-octet-requires Inv-loop μ-loop
+after-octet-requires c κs = search needs
+
+add-k : tie.Need-add-k Inv-loop μ-loop
+add-k c = search needs
+
+loop-less : tie.Need-loop-less Inv-loop μ-loop
+loop-less c = omega arith
+
+loop-again : tie.Need-loop-again Inv-loop μ-loop
+loop-again c =
+    let a = c .before .before .before .before .before .args in
+    let l = c .before .before .before .loop in
+    let h : l .k < length (now (a .octets)) = omega arith in
+    let hb : getD (now (a .octets)) (l .k) 0 < 256 = c .before .shared-slice-known2 .given (l .k) .fits in
+    (omega arith, ap (λ (x : ℕ). registerAfter x (drop (l .k + 1) (now (a .octets)))) (c .after-octet .ensures) ∙ sym (octet-in (now (a .octets)) (l .k) (l .r) h hb) ∙ l .inv .1)
+
+returns : tie.Need-returns Inv-loop μ-loop
+returns c =
+    let a = c .before .before .before .args in
+    let l = c .before .loop in
+    sym (ap (registerAfter (l .r)) (drop-of-length-le (now (a .octets)) (c .loop-test .left)) ∙ register-none (l .r)) ∙ l .inv .1
+
+pub after-octets-spec : {M : Type 1} → statement M
+after-octets-spec =
+    tie.close
+    (tie.spec
+    Inv-loop
+    μ-loop
+    loop-holds
+    shared-slice-read-after-octet
+    after-octet-requires
+    add-k
+    loop-less
+    loop-again
+    returns)

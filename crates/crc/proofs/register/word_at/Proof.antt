@@ -1,0 +1,93 @@
+-- `crc::load` meets its contract. Assumes nothing.
+use mathlib.Core.Path.{sym, ap, _∙_}
+use mathlib.Core.List.{List}
+use Prim.Native.Nat.{ℕ}
+use denote.Ref.{now}
+use Rattle.crc.specs.V42.{content, number}
+use Rattle.crc.proofs.Octets.{value-eight, take-eight, cells}
+use borrow.Author.Needs.{needs}
+use Rattle.crc.proofs.register.word_at.Statement.{statement}
+use Rattle.crc.proofs.register.word_at.Tie as tie
+
+octet-at-requires : tie.Need-octet-at-requires
+octet-at-requires c κs = search needs
+
+add-octet-at : tie.Need-add-octet-at
+add-octet-at c = search needs
+
+octet-at-requires-2 : tie.Need-octet-at-requires-2
+octet-at-requires-2 c κs = search needs
+
+add-octet-at-2 : tie.Need-add-octet-at-2
+add-octet-at-2 c = search needs
+
+octet-at-requires-3 : tie.Need-octet-at-requires-3
+octet-at-requires-3 c κs = search needs
+
+add-octet-at-3 : tie.Need-add-octet-at-3
+add-octet-at-3 c = search needs
+
+octet-at-requires-4 : tie.Need-octet-at-requires-4
+octet-at-requires-4 c κs = search needs
+
+add-octet-at-4 : tie.Need-add-octet-at-4
+add-octet-at-4 c = search needs
+
+octet-at-requires-5 : tie.Need-octet-at-requires-5
+octet-at-requires-5 c κs = search needs
+
+add-octet-at-5 : tie.Need-add-octet-at-5
+add-octet-at-5 c = search needs
+
+octet-at-requires-6 : tie.Need-octet-at-requires-6
+octet-at-requires-6 c κs = search needs
+
+add-octet-at-6 : tie.Need-add-octet-at-6
+add-octet-at-6 c = search needs
+
+octet-at-requires-7 : tie.Need-octet-at-requires-7
+octet-at-requires-7 c κs = search needs
+
+add-octet-at-7 : tie.Need-add-octet-at-7
+add-octet-at-7 c = search needs
+
+octet-at-requires-8 : tie.Need-octet-at-requires-8
+octet-at-requires-8 c κs = search needs
+
+returns : tie.Need-returns
+returns c =
+    let s0 = c .before .before .before .before .before .before .before .before .before in
+    let a = s0 .args in
+    let r0 = c .before .before .before .before .before .before .before .octet-at in
+    let r1 = c .before .before .before .before .before .before .octet-at2 in
+    let r2 = c .before .before .before .before .before .octet-at3 in
+    let r3 = c .before .before .before .before .octet-at4 in
+    let r4 = c .before .before .before .octet-at5 in
+    let r5 = c .before .before .octet-at6 in
+    let r6 = c .before .octet-at7 in
+    let r7 = c .octet-at8 in
+    value-eight (r0 .result) (r1 .result) (r2 .result) (r3 .result) (r4 .result) (r5 .result) (r6 .result) (r7 .result)
+    (r0 .ensures .1) (r1 .ensures .1) (r2 .ensures .1) (r3 .ensures .1) (r4 .ensures .1) (r5 .ensures .1) (r6 .ensures .1) (r7 .ensures .1)
+    ∙ sym (ap (λ (l : List ℕ). number (content l)) (take-eight (now (a .octets)) (a .i) (s0 .pre)
+    ∙ cells (sym (r0 .ensures .0)) (sym (r1 .ensures .0)) (sym (r2 .ensures .0)) (sym (r3 .ensures .0)) (sym (r4 .ensures .0)) (sym (r5 .ensures .0)) (sym (r6 .ensures .0)) (sym (r7 .ensures .0))))
+
+pub word-at-spec : {M : Type 1} → statement M
+word-at-spec =
+    tie.close
+    (tie.spec
+    octet-at-requires
+    add-octet-at
+    octet-at-requires-2
+    add-octet-at-2
+    octet-at-requires-3
+    add-octet-at-3
+    octet-at-requires-4
+    add-octet-at-4
+    octet-at-requires-5
+    add-octet-at-5
+    octet-at-requires-6
+    add-octet-at-6
+    octet-at-requires-7
+    add-octet-at-7
+    octet-at-requires-8
+    returns)
