@@ -1,6 +1,5 @@
--- The definition by polynomials is the shift register. A polynomial is read as a number with its highest power at the low-order bit: then a step
--- of the long division is a step of the register, and the sum modulo 2 is `bitXor`.
--- Assumes nothing.
+-- The sequence of V.42 is the complement of a shift register. A polynomial is read as a number with its highest power at the low-order bit: a
+-- step of the long division is then a step of the register, and the sum modulo 2 is `bitXor`. Assumes nothing.
 use mathlib.Core.Path.{_≡_, refl, sym, ap, ap₂, _∙_}
 use mathlib.Core.Bool.{Bool, true, false, not}
 use mathlib.Core.List.{List, [], _∷_, _++_, map, append-assoc}

@@ -1,5 +1,5 @@
--- What the folding comes to: the 304 octets that are left have the register of the whole.
--- Assumes nothing.
+-- What the folding comes to: the 304 octets that are left over have the register of the whole. The octets struck out stand once where they
+-- were and once at each of the four places further on, and by the sparse relation the register after all of them is 0. Assumes nothing.
 use mathlib.Core.Path.{_≡_, refl, sym, ap, ap₂, _∙_}
 use mathlib.Core.List.{List, [], _∷_, _++_}
 use Prim.Native.Nat.{ℕ, zero, suc, _+_, _-_, _*_, _/_, _%_, _^_, _<_, _≤_}
@@ -19,218 +19,223 @@ use Rattle.crc.proofs.Sparse.{sparse-2400}
 
 -- ---- the sum of two lists of octets, of which the second is no longer
 
-plus : List ℕ → List ℕ → List ℕ
-plus [] ys = []
-plus (x ∷ xs) [] = x ∷ xs
-plus (x ∷ xs) (y ∷ ys) = bitXor x y ∷ plus xs ys
+xorEach : List ℕ → List ℕ → List ℕ
+xorEach [] ys = []
+xorEach (x ∷ xs) [] = x ∷ xs
+xorEach (x ∷ xs) (y ∷ ys) = bitXor x y ∷ xorEach xs ys
 
-length-plus : (xs ys : List ℕ) → length (plus xs ys) ≡ length xs
-unfolding plus
-length-plus [] ys = refl
-length-plus (x ∷ xs) [] = refl
-length-plus (x ∷ xs) (y ∷ ys) = ap suc (length-plus xs ys)
+length-xorEach : (xs ys : List ℕ) → length (xorEach xs ys) ≡ length xs
+unfolding xorEach
+length-xorEach [] ys = refl
+length-xorEach (x ∷ xs) [] = refl
+length-xorEach (x ∷ xs) (y ∷ ys) = ap suc (length-xorEach xs ys)
 
-getD-plus : (xs ys : List ℕ) (k : ℕ) → k < length xs → getD (plus xs ys) k 0 ≡ bitXor (getD xs k 0) (getD ys k 0)
-unfolding plus
-getD-plus [] ys k h = omega arith
-getD-plus (x ∷ xs) [] k h = sym (xor-zero-r (getD (x ∷ xs) k 0))
-getD-plus (x ∷ xs) (y ∷ ys) zero h = refl
-getD-plus (x ∷ xs) (y ∷ ys) (suc k) h = getD-plus xs ys k (omega arith)
+getD-xorEach : (xs ys : List ℕ) (k : ℕ) → k < length xs → getD (xorEach xs ys) k 0 ≡ bitXor (getD xs k 0) (getD ys k 0)
+unfolding xorEach
+getD-xorEach [] ys k h = omega arith
+getD-xorEach (x ∷ xs) [] k h = sym (xor-zero-r (getD (x ∷ xs) k 0))
+getD-xorEach (x ∷ xs) (y ∷ ys) zero h = refl
+getD-xorEach (x ∷ xs) (y ∷ ys) (suc k) h = getD-xorEach xs ys k (omega arith)
 
-value-plus : (xs ys : List ℕ) → length ys ≤ length xs → valueOf (plus xs ys) ≡ bitXor (valueOf xs) (valueOf ys)
-unfolding plus
-value-plus [] [] h = refl
-value-plus [] (y ∷ ys) h = omega arith
-value-plus (x ∷ xs) [] h = sym (xor-zero-r (valueOf (x ∷ xs)))
-value-plus (x ∷ xs) (y ∷ ys) h =
-    value-cons (bitXor x y) (plus xs ys)
-    ∙ ap₂ (λ (p q : ℕ). p * 256 + q) (value-plus xs ys (omega arith)) (xor-mod x y 8)
+value-xorEach : (xs ys : List ℕ) → length ys ≤ length xs → valueOf (xorEach xs ys) ≡ bitXor (valueOf xs) (valueOf ys)
+unfolding xorEach
+value-xorEach [] [] h = refl
+value-xorEach [] (y ∷ ys) h = omega arith
+value-xorEach (x ∷ xs) [] h = sym (xor-zero-r (valueOf (x ∷ xs)))
+value-xorEach (x ∷ xs) (y ∷ ys) h =
+    value-cons (bitXor x y) (xorEach xs ys)
+    ∙ ap₂ (λ (p q : ℕ). p * 256 + q) (value-xorEach xs ys (omega arith)) (xor-mod x y 8)
     ∙ sym (xor-block 8 (valueOf xs) (valueOf ys) (x % 256) (y % 256) (mod-lt x (lit< tt)) (mod-lt y (lit< tt)))
     ∙ sym (ap₂ bitXor (value-cons x xs) (value-cons y ys))
 
--- ---- sums
+-- ---- sums modulo 2, regrouped
 
-left-comm : (a b c : ℕ) → bitXor a (bitXor b c) ≡ bitXor b (bitXor a c)
-left-comm a b c = sym (xor-assoc a b c) ∙ ap (λ (x : ℕ). bitXor x c) (xor-comm a b) ∙ xor-assoc b a c
+xor-left-comm : (a b c : ℕ) → bitXor a (bitXor b c) ≡ bitXor b (bitXor a c)
+xor-left-comm a b c = sym (xor-assoc a b c) ∙ ap (λ (x : ℕ). bitXor x c) (xor-comm a b) ∙ xor-assoc b a c
 
-twice : (a b : ℕ) → bitXor (bitXor a b) b ≡ a
-twice a b = xor-assoc a b b ∙ ap (bitXor a) (xor-self b) ∙ xor-zero-r a
+xor-twice : (a b : ℕ) → bitXor (bitXor a b) b ≡ a
+xor-twice a b = xor-assoc a b b ∙ ap (bitXor a) (xor-self b) ∙ xor-zero-r a
 
-gather : (s a b c d f : ℕ) → bitXor (bitXor (bitXor (bitXor s a) b) c) (bitXor d f) ≡ bitXor (bitXor f s) (bitXor a (bitXor b (bitXor c d)))
-gather s a b c d f =
+xor-gather : (s a b c d f : ℕ) → bitXor (bitXor (bitXor (bitXor s a) b) c) (bitXor d f) ≡ bitXor (bitXor f s) (bitXor a (bitXor b (bitXor c d)))
+xor-gather s a b c d f =
     ap (bitXor (bitXor (bitXor (bitXor s a) b) c)) (xor-comm d f)
-    ∙ left-comm (bitXor (bitXor (bitXor s a) b) c) f d
+    ∙ xor-left-comm (bitXor (bitXor (bitXor s a) b) c) f d
     ∙ ap (bitXor f) (xor-assoc (bitXor (bitXor s a) b) c d ∙ xor-assoc (bitXor s a) b (bitXor c d) ∙ xor-assoc s a (bitXor b (bitXor c d)))
     ∙ sym (xor-assoc f s (bitXor a (bitXor b (bitXor c d))))
 
-solve : (t x y : ℕ) → bitXor t x ≡ bitXor y x → t ≡ y
-solve t x y e = sym (twice t x) ∙ ap (λ (z : ℕ). bitXor z x) e ∙ twice y x
+xor-cancel : (t x y : ℕ) → bitXor t x ≡ bitXor y x → t ≡ y
+xor-cancel t x y e = sym (xor-twice t x) ∙ ap (λ (z : ℕ). bitXor z x) e ∙ xor-twice y x
 
--- ---- the lists
+-- ---- the register as octets
 
-four : (b0 b1 b2 b3 : ℕ) → valueOf (b0 ∷ b1 ∷ b2 ∷ b3 ∷ replicate 296 0) ≡ (((0 * 256 + b3 % 256) * 256 + b2 % 256) * 256 + b1 % 256) * 256 + b0 % 256
-four b0 b1 b2 b3 =
+value-four : (b0 b1 b2 b3 : ℕ) → valueOf (b0 ∷ b1 ∷ b2 ∷ b3 ∷ replicate 296 0) ≡ (((0 * 256 + b3 % 256) * 256 + b2 % 256) * 256 + b1 % 256) * 256 + b0 % 256
+value-four b0 b1 b2 b3 =
     value-cons b0 (b1 ∷ b2 ∷ b3 ∷ replicate 296 0)
     ∙ ap (λ (x : ℕ). x * 256 + b0 % 256)
     (value-cons b1 (b2 ∷ b3 ∷ replicate 296 0)
     ∙ ap (λ (x : ℕ). x * 256 + b1 % 256)
     (value-cons b2 (b3 ∷ replicate 296 0) ∙ ap (λ (x : ℕ). x * 256 + b2 % 256) (value-cons b3 (replicate 296 0))))
 
-dig : (x k : ℕ) → x / 2 ^ k ≡ x / 2 ^ (k + 8) * 256 + x / 2 ^ k % 2 ^ 8 % 256
-dig x k =
+value-digit : (x k : ℕ) → x / 2 ^ k ≡ x / 2 ^ (k + 8) * 256 + x / 2 ^ k % 2 ^ 8 % 256
+value-digit x k =
     sym (split (x / 2 ^ k) 8)
     ∙ ap₂ (λ (p q : ℕ). p * 256 + q) (shr-shr x k 8) (sym (mod-eq-of-lt (mod-lt (x / 2 ^ k) {m = 256} (lit< tt))))
 
-head-val : (c : ℕ) → c < 2 ^ 32 → valueOf (leadOf c) ≡ c
-head-val c h =
+lead-value : (c : ℕ) → c < 2 ^ 32 → valueOf (leadOf c) ≡ c
+lead-value c h =
     let z : c / 2 ^ 32 ≡ 0 = omega arith in
-    four (c % 2 ^ 8) (c / 2 ^ 8 % 2 ^ 8) (c / 2 ^ 16 % 2 ^ 8) (c / 2 ^ 24 % 2 ^ 8)
+    value-four (c % 2 ^ 8) (c / 2 ^ 8 % 2 ^ 8) (c / 2 ^ 16 % 2 ^ 8) (c / 2 ^ 24 % 2 ^ 8)
     ∙ sym
     (sym (split c 8)
     ∙ ap₂ (λ (p q : ℕ). p * 256 + q)
-    (dig c 8
+    (value-digit c 8
     ∙ ap (λ (x : ℕ). x * 256 + c / 2 ^ 8 % 2 ^ 8 % 256)
-    (dig c 16
-    ∙ ap (λ (x : ℕ). x * 256 + c / 2 ^ 16 % 2 ^ 8 % 256) (dig c 24 ∙ ap (λ (x : ℕ). x * 256 + c / 2 ^ 24 % 2 ^ 8 % 256) z)))
+    (value-digit c 16
+    ∙ ap (λ (x : ℕ). x * 256 + c / 2 ^ 16 % 2 ^ 8 % 256) (value-digit c 24 ∙ ap (λ (x : ℕ). x * 256 + c / 2 ^ 24 % 2 ^ 8 % 256) z)))
     (sym (mod-eq-of-lt (mod-lt c {m = 256} (lit< tt)))))
 
-module _ (c : ℕ) (hc : c < 2 ^ 32) (s e t : List ℕ) (cut : ℕ) (big : 300 ≤ cut) (n : length s ≡ cut + 4) (e-length : length e ≡ cut) (t-length : length t ≡ 304)
-    (start : take 300 e ≡ (leadOf c)) (f : (k : ℕ) → k < cut + 4 → getD (drop 300 e ++ t) k 0 ≡ foldedAt s e k) where
-  w : List ℕ
-  w = drop 300 e
+-- ---- what is struck out
 
-  w-length : length w ≡ cut - 300
-  unfolding w
-  w-length = omega (arith, length-drop 300 e, e-length)
+module _ (c : ℕ) (hc : c < 2 ^ 32) (octets sums left : List ℕ) (cut : ℕ) (big : 300 ≤ cut) (size : length octets ≡ cut + 4) (sums-length : length sums ≡ cut) (left-length : length left ≡ 304)
+    (lead : take 300 sums ≡ leadOf c) (folded : (k : ℕ) → k < cut + 4 → getD (drop 300 sums ++ left) k 0 ≡ foldedAt octets sums k) where
+  -- the octets that are struck out
+  struck : List ℕ
+  struck = drop 300 sums
 
-  e-is : e ≡ (leadOf c) ++ w
-  unfolding w
-  e-is = sym (take-append-drop 300 e) ∙ ap (λ (l : List ℕ). l ++ drop 300 e) start
+  struck-length : length struck ≡ cut - 300
+  unfolding struck
+  struck-length = omega (arith, length-drop 300 sums, sums-length)
 
-  sums : List ℕ
-  sums = plus (plus (plus (plus s (drop 155 e)) (drop 117 e)) (drop 89 e)) e
+  sums-parts : sums ≡ leadOf c ++ struck
+  unfolding struck
+  sums-parts = sym (take-append-drop 300 sums) ∙ ap (λ (l : List ℕ). l ++ drop 300 sums) lead
 
-  sums-length : length sums ≡ cut + 4
-  unfolding sums
-  sums-length = simp length-plus n
+  -- the octets, with everything that is added to them
+  total : List ℕ
+  total = xorEach (xorEach (xorEach (xorEach octets (drop 155 sums)) (drop 117 sums)) (drop 89 sums)) sums
 
-  moved : (k i : ℕ) → getD (drop k e) i 0 ≡ getD e (i + k) 0
-  moved k i = getD-drop k e i 0 ∙ ap (λ (j : ℕ). getD e j 0) (add-comm k i)
+  total-length : length total ≡ cut + 4
+  unfolding total
+  total-length = simp length-xorEach size
 
-  at : (k : ℕ) → k < cut + 4 → getD sums k 0 ≡ foldedAt s e k
-  unfolding sums
-  at k h =
-      getD-plus (plus (plus (plus s (drop 155 e)) (drop 117 e)) (drop 89 e)) e k (simp length-plus (omega arith))
-      ∙ ap (λ (x : ℕ). bitXor x (getD e k 0))
-      (getD-plus (plus (plus s (drop 155 e)) (drop 117 e)) (drop 89 e) k (simp length-plus (omega arith))
+  moved : (k i : ℕ) → getD (drop k sums) i 0 ≡ getD sums (i + k) 0
+  moved k i = getD-drop k sums i 0 ∙ ap (λ (j : ℕ). getD sums j 0) (add-comm k i)
+
+  total-at : (k : ℕ) → k < cut + 4 → getD total k 0 ≡ foldedAt octets sums k
+  unfolding total
+  total-at k h =
+      getD-xorEach (xorEach (xorEach (xorEach octets (drop 155 sums)) (drop 117 sums)) (drop 89 sums)) sums k (simp length-xorEach (omega arith))
+      ∙ ap (λ (x : ℕ). bitXor x (getD sums k 0))
+      (getD-xorEach (xorEach (xorEach octets (drop 155 sums)) (drop 117 sums)) (drop 89 sums) k (simp length-xorEach (omega arith))
       ∙ ap₂ bitXor
-      (getD-plus (plus s (drop 155 e)) (drop 117 e) k (simp length-plus (omega arith))
-      ∙ ap₂ bitXor (getD-plus s (drop 155 e) k (omega arith) ∙ ap (bitXor (getD s k 0)) (moved 155 k)) (moved 117 k))
+      (getD-xorEach (xorEach octets (drop 155 sums)) (drop 117 sums) k (simp length-xorEach (omega arith))
+      ∙ ap₂ bitXor (getD-xorEach octets (drop 155 sums) k (omega arith) ∙ ap (bitXor (getD octets k 0)) (moved 155 k)) (moved 117 k))
       (moved 89 k))
 
-  same-lists : w ++ t ≡ sums
-  unfolding w
-  same-lists =
-      let l : length (drop 300 e ++ t) ≡ cut + 4 = omega (arith, length-append (drop 300 e) t, length-drop 300 e, e-length, t-length) in
-      ext-getD 0 (drop 300 e ++ t) sums (l ∙ sym sums-length) (λ k h. f k (omega arith) ∙ sym (at k (omega arith)))
+  total-parts : struck ++ left ≡ total
+  unfolding struck
+  total-parts =
+      let l : length (drop 300 sums ++ left) ≡ cut + 4 = omega (arith, length-append (drop 300 sums) left, length-drop 300 sums, sums-length, left-length) in
+      ext-getD 0 (drop 300 sums ++ left) total (l ∙ sym total-length) (λ k h. folded k (omega arith) ∙ sym (total-at k (omega arith)))
 
-  -- the eliminated octets, moved on
-  from-head : (k j : ℕ) → k ≤ 300 → length (drop k (leadOf c)) ≡ j → valueOf (drop k e) ≡ valueOf w * 2 ^ (8 * j) + valueOf (drop k (leadOf c))
-  from-head k j h l =
-      ap (λ (x : List ℕ). valueOf (drop k x)) e-is
-      ∙ ap valueOf (drop-append-le k (leadOf c) w h)
-      ∙ value-append (drop k (leadOf c)) w
-      ∙ ap (λ (i : ℕ). valueOf w * 2 ^ (8 * i) + valueOf (drop k (leadOf c))) l
+  -- what is added is the struck octets, moved on
+  from-lead : (k j : ℕ) → k ≤ 300 → length (drop k (leadOf c)) ≡ j → valueOf (drop k sums) ≡ valueOf struck * 2 ^ (8 * j) + valueOf (drop k (leadOf c))
+  from-lead k j h l =
+      ap (λ (x : List ℕ). valueOf (drop k x)) sums-parts
+      ∙ ap valueOf (drop-append-le k (leadOf c) struck h)
+      ∙ value-append (drop k (leadOf c)) struck
+      ∙ ap (λ (i : ℕ). valueOf struck * 2 ^ (8 * i) + valueOf (drop k (leadOf c))) l
 
-  on145 : valueOf (drop 155 e) ≡ valueOf w * 2 ^ 1160
-  on145 = from-head 155 145 (lit≤ tt) refl ∙ add-zero (valueOf w * 2 ^ 1160)
+  on145 : valueOf (drop 155 sums) ≡ valueOf struck * 2 ^ 1160
+  on145 = from-lead 155 145 (lit≤ tt) refl ∙ add-zero (valueOf struck * 2 ^ 1160)
 
-  on183 : valueOf (drop 117 e) ≡ valueOf w * 2 ^ 1464
-  on183 = from-head 117 183 (lit≤ tt) refl ∙ add-zero (valueOf w * 2 ^ 1464)
+  on183 : valueOf (drop 117 sums) ≡ valueOf struck * 2 ^ 1464
+  on183 = from-lead 117 183 (lit≤ tt) refl ∙ add-zero (valueOf struck * 2 ^ 1464)
 
-  on211 : valueOf (drop 89 e) ≡ valueOf w * 2 ^ 1688
-  on211 = from-head 89 211 (lit≤ tt) refl ∙ add-zero (valueOf w * 2 ^ 1688)
+  on211 : valueOf (drop 89 sums) ≡ valueOf struck * 2 ^ 1688
+  on211 = from-lead 89 211 (lit≤ tt) refl ∙ add-zero (valueOf struck * 2 ^ 1688)
 
-  on300 : valueOf e ≡ bitXor (valueOf w * 2 ^ 2400) (c)
+  on300 : valueOf sums ≡ bitXor (valueOf struck * 2 ^ 2400) c
   on300 =
-      from-head 0 300 (lit≤ tt) refl ∙ ap (λ (x : ℕ). valueOf w * 2 ^ 2400 + x) (head-val c hc)
-      ∙ sym (xor-shifted (valueOf w) 2400 c (lt-of-lt-of-le hc (pow-mono {i = 32} {j = 2400} (lit≤ tt))))
+      from-lead 0 300 (lit≤ tt) refl ∙ ap (λ (x : ℕ). valueOf struck * 2 ^ 2400 + x) (lead-value c hc)
+      ∙ sym (xor-shifted (valueOf struck) 2400 c (lt-of-lt-of-le hc (pow-mono {i = 32} {j = 2400} (lit≤ tt))))
 
-  w-lt : valueOf w < 2 ^ (8 * (cut - 300))
-  w-lt = value-lt w (cut - 300) w-length
+  struck-lt : valueOf struck < 2 ^ (8 * (cut - 300))
+  struck-lt = value-lt struck (cut - 300) struck-length
 
-  numbers : bitXor (valueOf t * 2 ^ (8 * (cut - 300))) (valueOf w)
-      ≡ bitXor (bitXor (bitXor (bitXor (valueOf s) (valueOf w * 2 ^ 1160)) (valueOf w * 2 ^ 1464)) (valueOf w * 2 ^ 1688)) (bitXor (valueOf w * 2 ^ 2400) (c))
-  unfolding sums
-  numbers =
-      xor-shifted (valueOf t) (8 * (cut - 300)) (valueOf w) w-lt
-      ∙ sym (value-append w t ∙ ap (λ (i : ℕ). valueOf t * 2 ^ (8 * i) + valueOf w) w-length)
-      ∙ ap valueOf same-lists
-      ∙ value-plus (plus (plus (plus s (drop 155 e)) (drop 117 e)) (drop 89 e)) e (simp length-plus (omega (arith, e-length)))
+  -- all of it as numbers
+  values : bitXor (valueOf left * 2 ^ (8 * (cut - 300))) (valueOf struck)
+      ≡ bitXor (bitXor (bitXor (bitXor (valueOf octets) (valueOf struck * 2 ^ 1160)) (valueOf struck * 2 ^ 1464)) (valueOf struck * 2 ^ 1688)) (bitXor (valueOf struck * 2 ^ 2400) c)
+  unfolding total
+  values =
+      xor-shifted (valueOf left) (8 * (cut - 300)) (valueOf struck) struck-lt
+      ∙ sym (value-append struck left ∙ ap (λ (i : ℕ). valueOf left * 2 ^ (8 * i) + valueOf struck) struck-length)
+      ∙ ap valueOf total-parts
+      ∙ value-xorEach (xorEach (xorEach (xorEach octets (drop 155 sums)) (drop 117 sums)) (drop 89 sums)) sums (simp length-xorEach (omega (arith, sums-length)))
       ∙ ap₂ bitXor
-      (value-plus (plus (plus s (drop 155 e)) (drop 117 e)) (drop 89 e) (simp length-plus (omega (arith, e-length, length-drop 89 e)))
+      (value-xorEach (xorEach (xorEach octets (drop 155 sums)) (drop 117 sums)) (drop 89 sums) (simp length-xorEach (omega (arith, sums-length, length-drop 89 sums)))
       ∙ ap₂ bitXor
-      (value-plus (plus s (drop 155 e)) (drop 117 e) (simp length-plus (omega (arith, e-length, length-drop 117 e)))
-      ∙ ap₂ bitXor (value-plus s (drop 155 e) (omega (arith, e-length, length-drop 155 e)) ∙ ap (bitXor (valueOf s)) on145) on183)
+      (value-xorEach (xorEach octets (drop 155 sums)) (drop 117 sums) (simp length-xorEach (omega (arith, sums-length, length-drop 117 sums)))
+      ∙ ap₂ bitXor (value-xorEach octets (drop 155 sums) (omega (arith, sums-length, length-drop 155 sums)) ∙ ap (bitXor (valueOf octets)) on145) on183)
       on211)
       on300
 
-  -- m is what is left of the steps after 2,400
-  m : ℕ
-  m = 8 * (cut - 300) + 32
+  -- the steps that are left after 2,400
+  later : ℕ
+  later = 8 * (cut - 300) + 32
 
-  back : (j k : ℕ) → j + k ≡ 2400 → steps (8 * (cut + 4)) (valueOf w * 2 ^ j) ≡ steps m (steps k (valueOf w))
-  unfolding m
-  back j k h =
+  moved-on : (j k : ℕ) → j + k ≡ 2400 → steps (8 * (cut + 4)) (valueOf struck * 2 ^ j) ≡ steps later (steps k (valueOf struck))
+  unfolding later
+  moved-on j k h =
       let d : 8 * (cut + 4) ≡ j + (k + (8 * (cut - 300) + 32)) = omega arith in
-      ap (λ (i : ℕ). steps i (valueOf w * 2 ^ j)) d ∙ run-back j (k + (8 * (cut - 300) + 32)) (valueOf w)
-      ∙ steps-add k (8 * (cut - 300) + 32) (valueOf w)
+      ap (λ (i : ℕ). steps i (valueOf struck * 2 ^ j)) d ∙ run-back j (k + (8 * (cut - 300) + 32)) (valueOf struck)
+      ∙ steps-add k (8 * (cut - 300) + 32) (valueOf struck)
 
-  whole : steps (8 * (cut + 4)) (valueOf w)
-      ≡ bitXor (steps m (steps 1240 (valueOf w))) (bitXor (steps m (steps 936 (valueOf w))) (bitXor (steps m (steps 712 (valueOf w))) (steps m (valueOf w))))
-  unfolding m
-  whole =
+  -- the sparse relation: all steps of the struck octets are those of the octets moved on
+  struck-run : steps (8 * (cut + 4)) (valueOf struck)
+      ≡ bitXor (steps later (steps 1240 (valueOf struck))) (bitXor (steps later (steps 936 (valueOf struck))) (bitXor (steps later (steps 712 (valueOf struck))) (steps later (valueOf struck))))
+  unfolding later
+  struck-run =
       let d : 8 * (cut + 4) ≡ 2400 + (8 * (cut - 300) + 32) = omega arith in
-      let h : valueOf w < 2 ^ (8 * (cut - 300) + 32) = lt-of-lt-of-le w-lt (pow-mono {i = 8 * (cut - 300)} {j = 8 * (cut - 300) + 32} (omega arith)) in
-      ap (λ (i : ℕ). steps i (valueOf w)) d ∙ steps-add 2400 m (valueOf w) ∙ sparse-2400 m (valueOf w) h
-      ∙ steps-xor m (steps 1240 (valueOf w)) (bitXor (steps 936 (valueOf w)) (bitXor (steps 712 (valueOf w)) (valueOf w)))
-      ∙ ap (bitXor (steps m (steps 1240 (valueOf w))))
-      (steps-xor m (steps 936 (valueOf w)) (bitXor (steps 712 (valueOf w)) (valueOf w))
-      ∙ ap (bitXor (steps m (steps 936 (valueOf w)))) (steps-xor m (steps 712 (valueOf w)) (valueOf w)))
+      let h : valueOf struck < 2 ^ (8 * (cut - 300) + 32) = lt-of-lt-of-le struck-lt (pow-mono {i = 8 * (cut - 300)} {j = 8 * (cut - 300) + 32} (omega arith)) in
+      ap (λ (i : ℕ). steps i (valueOf struck)) d ∙ steps-add 2400 later (valueOf struck) ∙ sparse-2400 later (valueOf struck) h
+      ∙ steps-xor later (steps 1240 (valueOf struck)) (bitXor (steps 936 (valueOf struck)) (bitXor (steps 712 (valueOf struck)) (valueOf struck)))
+      ∙ ap (bitXor (steps later (steps 1240 (valueOf struck))))
+      (steps-xor later (steps 936 (valueOf struck)) (bitXor (steps 712 (valueOf struck)) (valueOf struck))
+      ∙ ap (bitXor (steps later (steps 936 (valueOf struck)))) (steps-xor later (steps 712 (valueOf struck)) (valueOf struck)))
 
-  rest : steps (8 * (cut + 4)) (valueOf t * 2 ^ (8 * (cut - 300))) ≡ registerAfter 0 t
+  left-run : steps (8 * (cut + 4)) (valueOf left * 2 ^ (8 * (cut - 300))) ≡ registerAfter 0 left
   unfolding registerAfter
-  rest =
+  left-run =
       let d : 8 * (cut + 4) ≡ 8 * (cut - 300) + 2432 = omega arith in
-      ap (λ (i : ℕ). steps i (valueOf t * 2 ^ (8 * (cut - 300)))) d ∙ run-back (8 * (cut - 300)) 2432 (valueOf t)
-      ∙ ap (λ (i : ℕ). steps i (valueOf t)) (sym (length-content t ∙ ap (λ (i : ℕ). 8 * i) t-length))
+      ap (λ (i : ℕ). steps i (valueOf left * 2 ^ (8 * (cut - 300)))) d ∙ run-back (8 * (cut - 300)) 2432 (valueOf left)
+      ∙ ap (λ (i : ℕ). steps i (valueOf left)) (sym (length-content left ∙ ap (λ (i : ℕ). 8 * i) left-length))
 
-  back-all : steps (8 * (cut + 4)) (valueOf w * 2 ^ 2400) ≡ steps m (valueOf w)
-  unfolding m
-  back-all =
-      let d : 8 * (cut + 4) ≡ 2400 + (8 * (cut - 300) + 32) = omega arith in
-      ap (λ (i : ℕ). steps i (valueOf w * 2 ^ 2400)) d ∙ run-back 2400 (8 * (cut - 300) + 32) (valueOf w)
+  moved-on-300 : steps (8 * (cut + 4)) (valueOf struck * 2 ^ 2400) ≡ steps later (valueOf struck)
+  unfolding steps
+  moved-on-300 = moved-on 2400 0 refl
 
-  pub left-over : registerAfter 0 t ≡ registerAfter (c) s
+  -- so the struck octets cancel
+  pub elimination : registerAfter 0 left ≡ registerAfter c octets
   unfolding registerAfter
-  left-over =
+  elimination =
       let k = 8 * (cut + 4) in
-      let x1 = steps m (steps 1240 (valueOf w)) in
-      let x2 = steps m (steps 936 (valueOf w)) in
-      let x3 = steps m (steps 712 (valueOf w)) in
-      let x4 = steps m (valueOf w) in
-      solve (registerAfter 0 t) (bitXor x1 (bitXor x2 (bitXor x3 x4))) (bitXor (steps k (c)) (steps k (valueOf s)))
-      (sym (ap₂ bitXor rest whole)
-      ∙ sym (steps-xor k (valueOf t * 2 ^ (8 * (cut - 300))) (valueOf w))
-      ∙ ap (steps k) numbers
-      ∙ steps-xor k (bitXor (bitXor (bitXor (valueOf s) (valueOf w * 2 ^ 1160)) (valueOf w * 2 ^ 1464)) (valueOf w * 2 ^ 1688)) (bitXor (valueOf w * 2 ^ 2400) (c))
+      let x1 = steps later (steps 1240 (valueOf struck)) in
+      let x2 = steps later (steps 936 (valueOf struck)) in
+      let x3 = steps later (steps 712 (valueOf struck)) in
+      let x4 = steps later (valueOf struck) in
+      xor-cancel (registerAfter 0 left) (bitXor x1 (bitXor x2 (bitXor x3 x4))) (bitXor (steps k c) (steps k (valueOf octets)))
+      (sym (ap₂ bitXor left-run struck-run)
+      ∙ sym (steps-xor k (valueOf left * 2 ^ (8 * (cut - 300))) (valueOf struck))
+      ∙ ap (steps k) values
+      ∙ steps-xor k (bitXor (bitXor (bitXor (valueOf octets) (valueOf struck * 2 ^ 1160)) (valueOf struck * 2 ^ 1464)) (valueOf struck * 2 ^ 1688)) (bitXor (valueOf struck * 2 ^ 2400) c)
       ∙ ap₂ bitXor
-      (steps-xor k (bitXor (bitXor (valueOf s) (valueOf w * 2 ^ 1160)) (valueOf w * 2 ^ 1464)) (valueOf w * 2 ^ 1688)
+      (steps-xor k (bitXor (bitXor (valueOf octets) (valueOf struck * 2 ^ 1160)) (valueOf struck * 2 ^ 1464)) (valueOf struck * 2 ^ 1688)
       ∙ ap₂ bitXor
-      (steps-xor k (bitXor (valueOf s) (valueOf w * 2 ^ 1160)) (valueOf w * 2 ^ 1464)
-      ∙ ap₂ bitXor (steps-xor k (valueOf s) (valueOf w * 2 ^ 1160) ∙ ap (bitXor (steps k (valueOf s))) (back 1160 1240 refl)) (back 1464 936 refl))
-      (back 1688 712 refl))
-      (steps-xor k (valueOf w * 2 ^ 2400) (c) ∙ ap (λ (z : ℕ). bitXor z (steps k (c))) (back-all))
-      ∙ gather (steps k (valueOf s)) x1 x2 x3 x4 (steps k (c)))
-      ∙ sym (steps-xor k (c) (valueOf s))
-      ∙ ap (λ (i : ℕ). steps i (bitXor (c) (valueOf s))) (sym (length-content s ∙ ap (λ (i : ℕ). 8 * i) n))
+      (steps-xor k (bitXor (valueOf octets) (valueOf struck * 2 ^ 1160)) (valueOf struck * 2 ^ 1464)
+      ∙ ap₂ bitXor (steps-xor k (valueOf octets) (valueOf struck * 2 ^ 1160) ∙ ap (bitXor (steps k (valueOf octets))) (moved-on 1160 1240 refl)) (moved-on 1464 936 refl))
+      (moved-on 1688 712 refl))
+      (steps-xor k (valueOf struck * 2 ^ 2400) c ∙ ap (λ (z : ℕ). bitXor z (steps k c)) moved-on-300)
+      ∙ xor-gather (steps k (valueOf octets)) x1 x2 x3 x4 (steps k c))
+      ∙ sym (steps-xor k c (valueOf octets))
+      ∙ ap (λ (i : ℕ). steps i (bitXor c (valueOf octets))) (sym (length-content octets ∙ ap (λ (i : ℕ). 8 * i) size))

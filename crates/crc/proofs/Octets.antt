@@ -17,12 +17,13 @@ use Rattle.crc.specs.Register.{valueOf}
 use Rattle.crc.proofs.Definition.{number-append, number-lt, content-append}
 
 -- ---- octets as numbers
+
 flag-odd : (r : ℕ) → r < 2 → flag (eqb r 1) ≡ r
 flag-odd zero h = refl
 flag-odd (suc zero) h = refl
 flag-odd (suc (suc r)) h = absurd (not-suc-le-zero (le-of-suc-le-suc (le-of-suc-le-suc h)))
 
-pub number-bits : (k x : ℕ) → number (bitsOf k x) ≡ x % 2 ^ k
+number-bits : (k x : ℕ) → number (bitsOf k x) ≡ x % 2 ^ k
 number-bits zero x = sym (mod-one x)
 number-bits (suc k) x =
     ap₂ (λ (a b : ℕ). a * 2 + b) (number-bits k (x / 2)) (flag-odd (x % 2) (mod-lt x (lit< tt)))
@@ -51,19 +52,20 @@ pub value-lt : (l : List ℕ) (k : ℕ) → length l ≡ k → valueOf l < 2 ^ (
 value-lt l k e = subst (λ (n : ℕ). valueOf l < 2 ^ n) (length-content l ∙ ap (λ (n : ℕ). 8 * n) e) (number-lt (content l))
 
 -- ---- a word read from eight octets
+
 or-next : (k x b : ℕ) → x < 2 ^ k → b * 2 ^ k < 2 ^ 64 → bitOr x (b * 2 ^ k % 2 ^ 64) ≡ b * 2 ^ k + x
 or-next k x b h hb = ap (bitOr x) (mod-eq-of-lt hb) ∙ or-shifted-r b k x h
 
 take-next : (s : List ℕ) (i k : ℕ) → i < length s → take (suc k) (drop i s) ≡ getD s i 0 ∷ take k (drop (suc i) s)
 take-next s i k h = ap (take (suc k)) (drop-cons s i 0 h)
 
-weights : (b0 b1 b2 b3 b4 b5 b6 b7 : ℕ)
+eight-weights : (b0 b1 b2 b3 b4 b5 b6 b7 : ℕ)
     → b7 * 2 ^ 56 + (b6 * 2 ^ 48 + (b5 * 2 ^ 40 + (b4 * 2 ^ 32 + (b3 * 2 ^ 24 + (b2 * 2 ^ 16 + (b1 * 2 ^ 8 + b0))))))
     ≡ (((((((0 * 256 + b7) * 256 + b6) * 256 + b5) * 256 + b4) * 256 + b3) * 256 + b2) * 256 + b1) * 256 + b0
-weights b0 b1 b2 b3 b4 b5 b6 b7 = omega arith
+eight-weights b0 b1 b2 b3 b4 b5 b6 b7 = omega arith
 
-more : (b : ℕ) (l : List ℕ) (x : ℕ) → b < 256 → valueOf l ≡ x → valueOf (b ∷ l) ≡ x * 256 + b
-more b l x h e = value-octet b l h ∙ ap (λ (n : ℕ). n * 256 + b) e
+value-more : (b : ℕ) (l : List ℕ) (x : ℕ) → b < 256 → valueOf l ≡ x → valueOf (b ∷ l) ≡ x * 256 + b
+value-more b l x h e = value-octet b l h ∙ ap (λ (n : ℕ). n * 256 + b) e
 
 pub value-eight : (b0 b1 b2 b3 b4 b5 b6 b7 : ℕ) → b0 < 256 → b1 < 256 → b2 < 256 → b3 < 256 → b4 < 256 → b5 < 256 → b6 < 256 → b7 < 256
     → bitOr (bitOr (bitOr (bitOr (bitOr (bitOr (bitOr b0 (b1 * 2 ^ 8 % 2 ^ 64)) (b2 * 2 ^ 16 % 2 ^ 64)) (b3 * 2 ^ 24 % 2 ^ 64)) (b4 * 2 ^ 32 % 2 ^ 64)) (b5 * 2 ^ 40 % 2 ^ 64)) (b6 * 2 ^ 48 % 2 ^ 64)) (b7 * 2 ^ 56 % 2 ^ 64)
@@ -77,9 +79,9 @@ value-eight b0 b1 b2 b3 b4 b5 b6 b7 h0 h1 h2 h3 h4 h5 h6 h7 =
     let e6 = or-next 48 (b5 * 2 ^ 40 + (b4 * 2 ^ 32 + (b3 * 2 ^ 24 + (b2 * 2 ^ 16 + (b1 * 2 ^ 8 + b0))))) b6 (omega arith) (omega arith) in
     let e7 = or-next 56 (b6 * 2 ^ 48 + (b5 * 2 ^ 40 + (b4 * 2 ^ 32 + (b3 * 2 ^ 24 + (b2 * 2 ^ 16 + (b1 * 2 ^ 8 + b0)))))) b7 (omega arith) (omega arith) in
     rw (e1, e2, e3, e4, e5, e6, e7)
-    (weights b0 b1 b2 b3 b4 b5 b6 b7
+    (eight-weights b0 b1 b2 b3 b4 b5 b6 b7
     ∙ sym
-    (more b0 (b1 ∷ b2 ∷ b3 ∷ b4 ∷ b5 ∷ b6 ∷ b7 ∷ []) _ h0 (more b1 (b2 ∷ b3 ∷ b4 ∷ b5 ∷ b6 ∷ b7 ∷ []) _ h1 (more b2 (b3 ∷ b4 ∷ b5 ∷ b6 ∷ b7 ∷ []) _ h2 (more b3 (b4 ∷ b5 ∷ b6 ∷ b7 ∷ []) _ h3 (more b4 (b5 ∷ b6 ∷ b7 ∷ []) _ h4 (more b5 (b6 ∷ b7 ∷ []) _ h5 (more b6 (b7 ∷ []) _ h6 (more b7 [] 0 h7 refl)))))))))
+    (value-more b0 (b1 ∷ b2 ∷ b3 ∷ b4 ∷ b5 ∷ b6 ∷ b7 ∷ []) _ h0 (value-more b1 (b2 ∷ b3 ∷ b4 ∷ b5 ∷ b6 ∷ b7 ∷ []) _ h1 (value-more b2 (b3 ∷ b4 ∷ b5 ∷ b6 ∷ b7 ∷ []) _ h2 (value-more b3 (b4 ∷ b5 ∷ b6 ∷ b7 ∷ []) _ h3 (value-more b4 (b5 ∷ b6 ∷ b7 ∷ []) _ h4 (value-more b5 (b6 ∷ b7 ∷ []) _ h5 (value-more b6 (b7 ∷ []) _ h6 (value-more b7 [] 0 h7 refl)))))))))
 
 pub take-eight : (s : List ℕ) (i : ℕ) → i + 8 ≤ length s
     → take 8 (drop i s)
@@ -102,6 +104,6 @@ take-eight s i h =
     ∙ ap (λ (l : List ℕ). getD s (suc (suc (suc (suc (suc (suc i)))))) 0 ∷ l)
     (take-next s (suc (suc (suc (suc (suc (suc (suc i))))))) 0 (omega arith)))))))))
 
-pub cells : {a0 a1 a2 a3 a4 a5 a6 a7 b0 b1 b2 b3 b4 b5 b6 b7 : ℕ} → a0 ≡ b0 → a1 ≡ b1 → a2 ≡ b2 → a3 ≡ b3 → a4 ≡ b4 → a5 ≡ b5 → a6 ≡ b6 → a7 ≡ b7
+pub eight-cells : {a0 a1 a2 a3 a4 a5 a6 a7 b0 b1 b2 b3 b4 b5 b6 b7 : ℕ} → a0 ≡ b0 → a1 ≡ b1 → a2 ≡ b2 → a3 ≡ b3 → a4 ≡ b4 → a5 ≡ b5 → a6 ≡ b6 → a7 ≡ b7
     → _≡_ {A = List ℕ} (a0 ∷ a1 ∷ a2 ∷ a3 ∷ a4 ∷ a5 ∷ a6 ∷ a7 ∷ []) (b0 ∷ b1 ∷ b2 ∷ b3 ∷ b4 ∷ b5 ∷ b6 ∷ b7 ∷ [])
-cells e0 e1 e2 e3 e4 e5 e6 e7 = cc
+eight-cells e0 e1 e2 e3 e4 e5 e6 e7 = cc

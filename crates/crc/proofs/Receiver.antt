@@ -3,12 +3,12 @@
 use mathlib.Core.Path.{_≡_, refl, sym, ap, ap₂, _∙_}
 use mathlib.Core.Bool.{true, false, not}
 use mathlib.Core.List.{[], _∷_, _++_, map}
-use Prim.Native.Nat.{ℕ, _+_, _-_, _*_, _^_, _<_}
+use Prim.Native.Nat.{ℕ, _+_, _-_, _*_, _^_}
 use native.Mathlib.Omega.{arith}
 use lib.Bits.{bitXor}
 use lib.ListN.{length, length-append, length-map}
 use Rattle.crc.specs.Poly.{Poly, sum, allOnes}
-use Rattle.crc.specs.V42.{bitsOf, number, remainders, fcs}
+use Rattle.crc.specs.V42.{number, remainders, fcs}
 use Rattle.crc.specs.Register.{step, steps}
 use Rattle.crc.proofs.Steps.{steps-add, steps-over}
 use Rattle.crc.proofs.Definition.{number-lt, number-append, number-sum, remainders-length, remainders-register}
@@ -28,12 +28,9 @@ number-injective (false ∷ p) (true ∷ q) l e = absurd (omega arith)
 number-injective (false ∷ p) (false ∷ q) l e = ap (λ (r : Poly). false ∷ r) (number-injective p q (omega arith) (omega arith))
 
 abbrev pub residue : Poly
-residue = bitsOf 32 0xDEBB20E3
-
-residue-is : residue
-    ≡ true ∷ true ∷ false ∷ false ∷ false ∷ true ∷ true ∷ true ∷ false ∷ false ∷ false ∷ false ∷ false ∷ true ∷ false ∷ false
+residue =
+    true ∷ true ∷ false ∷ false ∷ false ∷ true ∷ true ∷ true ∷ false ∷ false ∷ false ∷ false ∷ false ∷ true ∷ false ∷ false
     ∷ true ∷ true ∷ false ∷ true ∷ true ∷ true ∷ false ∷ true ∷ false ∷ true ∷ true ∷ true ∷ true ∷ false ∷ true ∷ true ∷ []
-residue-is = refl
 
 residue-steps : steps 32 (2 ^ 32 - 1) ≡ number residue
 unfolding steps step
@@ -45,7 +42,6 @@ received m =
     let k = length m in
     let r = remainders m in
     let f = map not r in
-    let x = bitXor (2 ^ 32 - 1) (number m) in
     let lf : length f ≡ 32 = length-map r not ∙ remainders-length m in
     let l : length (m ++ f) ≡ k + 32 = length-append m f ∙ ap (λ (n : ℕ). k + n) lf in
     number-injective (remainders (m ++ f)) residue (remainders-length (m ++ f))

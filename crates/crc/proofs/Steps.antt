@@ -1,6 +1,5 @@
--- The shift register: one step takes the lowest bit out of a number and, where it was 1, adds the generator, modulo 2.
--- A step is linear, so a run of steps is the sum of the runs of the parts, and a number that is shifted up by n comes back after n steps.
--- Assumes nothing.
+-- Laws of the shift register. A step is linear, so a run of steps is the sum of the runs of the parts, and a number that is shifted up by n
+-- comes back after n steps. Assumes nothing.
 use mathlib.Core.Path.{_≡_, refl, sym, ap, ap₂, _∙_, subst}
 use Prim.Native.Nat.{ℕ, zero, suc, _+_, _*_, _/_, _%_, _^_, _<_}
 use native.Mathlib.Nat.{mod-lt, le-of-suc-le-suc, not-suc-le-zero, suc-add, zero-add, mul-one, zero-mul, lt-of-lt-of-le, pow-suc}
@@ -8,10 +7,10 @@ use native.Mathlib.Omega.{arith}
 use lib.Arith.{digits-div, digits-mod}
 use lib.Bits.{bitXor, differ, xor-zero-r, xor-lt, xor-comm, xor-shifted, shifted-half, shifted-even}
 use lib.Pow.{pow-mono}
-use lib.Dec.{lit<}
 use Rattle.crc.specs.Register.{taps, step, steps}
-use Rattle.crc.proofs.Xor.{xor-half, xor-odd, xor-assoc, xor-swap}
+use Rattle.crc.proofs.Xor.{two-pos, xor-half, xor-odd, xor-assoc, xor-swap}
 
+-- the taps are added where the two bits differ
 taps-differ : (u v : ℕ) → u < 2 → v < 2 → differ u v * taps ≡ bitXor (u * taps) (v * taps)
 taps-differ zero v hu hv = ap (λ (x : ℕ). bitXor x (v * taps)) (sym (zero-mul taps))
 taps-differ (suc zero) zero hu hv = refl
@@ -19,14 +18,11 @@ taps-differ (suc zero) (suc zero) hu hv = refl
 taps-differ (suc zero) (suc (suc v)) hu hv = absurd (not-suc-le-zero (le-of-suc-le-suc (le-of-suc-le-suc hv)))
 taps-differ (suc (suc u)) v hu hv = absurd (not-suc-le-zero (le-of-suc-le-suc (le-of-suc-le-suc hu)))
 
-two : 0 < 2
-two = lit< tt
-
 pub step-xor : (a b : ℕ) → step (bitXor a b) ≡ bitXor (step a) (step b)
 unfolding step
 step-xor a b =
     ap₂ (λ (x y : ℕ). bitXor x (y * taps)) (xor-half a b) (xor-odd a b)
-    ∙ ap (bitXor (bitXor (a / 2) (b / 2))) (taps-differ (a % 2) (b % 2) (mod-lt a two) (mod-lt b two))
+    ∙ ap (bitXor (bitXor (a / 2) (b / 2))) (taps-differ (a % 2) (b % 2) (mod-lt a two-pos) (mod-lt b two-pos))
     ∙ xor-swap (a / 2) (b / 2) (a % 2 * taps) (b % 2 * taps)
 
 pub steps-xor : (n a b : ℕ) → steps n (bitXor a b) ≡ bitXor (steps n a) (steps n b)
@@ -57,6 +53,7 @@ steps-shifted (suc n) a =
     (ap₂ (λ (x y : ℕ). bitXor x (y * taps)) (shifted-half a n) (shifted-even a n) ∙ xor-zero-r (a * 2 ^ n))
     ∙ steps-shifted n a
 
+-- a number shifted up by j of the steps
 pub run-back : (j k x : ℕ) → steps (j + k) (x * 2 ^ j) ≡ steps k x
 run-back j k x = steps-add j k (x * 2 ^ j) ∙ ap (steps k) (steps-shifted j x)
 
@@ -71,16 +68,6 @@ steps-over n c a r h =
 taps-lt : (r : ℕ) → r < 2 → r * taps < 2 ^ 32
 taps-lt r h = omega arith
 
--- a register of at least 32 bits stays within its bits
-pub step-lt : (x : ℕ) → x < 2 ^ 32 → step x < 2 ^ 32
-unfolding step
-step-lt x h = xor-lt 32 (x / 2) (x % 2 * taps) (omega arith) (taps-lt (x % 2) (mod-lt x two))
-
-pub steps-lt : (n x : ℕ) → x < 2 ^ 32 → steps n x < 2 ^ 32
-unfolding steps
-steps-lt zero x h = h
-steps-lt (suc n) x h = steps-lt n (step x) (step-lt x h)
-
 -- n steps reduce a number of n + 32 bits to one of 32
 pub steps-reduce : (n x : ℕ) → x < 2 ^ (n + 32) → steps n x < 2 ^ 32
 unfolding steps step
@@ -88,4 +75,4 @@ steps-reduce zero x h = h
 steps-reduce (suc n) x h =
     let k : x < 2 ^ (n + 32) * 2 = subst (λ (y : ℕ). x < y) (ap (λ (j : ℕ). 2 ^ j) (suc-add n 32) ∙ pow-suc 2 (n + 32)) h in
     steps-reduce n (bitXor (x / 2) (x % 2 * taps))
-    (xor-lt (n + 32) (x / 2) (x % 2 * taps) (omega arith) (lt-of-lt-of-le (taps-lt (x % 2) (mod-lt x two)) (pow-mono {i = 32} {j = n + 32} (omega arith))))
+    (xor-lt (n + 32) (x / 2) (x % 2 * taps) (omega arith) (lt-of-lt-of-le (taps-lt (x % 2) (mod-lt x two-pos)) (pow-mono {i = 32} {j = n + 32} (omega arith))))

@@ -16,7 +16,8 @@ use Rattle.crc.proofs.Steps.{steps-xor, steps-over}
 use Rattle.crc.proofs.Definition.{register-append}
 use Rattle.crc.proofs.Octets.{length-content, value-octet}
 
--- ---- the register
+-- ---- words
+
 pub register-xor : (a b : ℕ) (l : List ℕ) → registerAfter (bitXor a b) l ≡ bitXor (steps (8 * length l) a) (registerAfter b l)
 unfolding registerAfter
 register-xor a b l =
@@ -25,7 +26,7 @@ register-xor a b l =
     ∙ ap (λ (n : ℕ). bitXor (steps n a) (steps (length (content l)) (bitXor b (valueOf l)))) (length-content l)
 
 -- a word of 64 bits of the register, and eight octets
-pub register-word : (a n : ℕ) (xs : List ℕ) → length xs ≡ 8 → n < 2 ^ 64
+register-word : (a n : ℕ) (xs : List ℕ) → length xs ≡ 8 → n < 2 ^ 64
     → registerAfter (a * 2 ^ 64 + n) xs ≡ bitXor (steps 64 (bitXor (valueOf xs) n)) a
 unfolding registerAfter
 register-word a n xs e h =
@@ -33,28 +34,29 @@ register-word a n xs e h =
     ∙ ap (steps 64) (xor-comm (a * 2 ^ 64 + n) (valueOf xs))
     ∙ steps-over 64 (valueOf xs) a n h
 
-pub part : (s : List ℕ) (i k : ℕ) → drop i s ≡ take k (drop i s) ++ drop (i + k) s
-part s i k = sym (take-append-drop k (drop i s)) ∙ ap (λ (l : List ℕ). take k (drop i s) ++ l) (drop-drop k i s)
+drop-part : (s : List ℕ) (i k : ℕ) → drop i s ≡ take k (drop i s) ++ drop (i + k) s
+drop-part s i k = sym (take-append-drop k (drop i s)) ∙ ap (λ (l : List ℕ). take k (drop i s) ++ l) (drop-drop k i s)
 
-pub length-part : (s : List ℕ) (i k : ℕ) → i + k ≤ length s → length (take k (drop i s)) ≡ k
+length-part : (s : List ℕ) (i k : ℕ) → i + k ≤ length s → length (take k (drop i s)) ≡ k
 length-part s i k h = length-take-le k (drop i s) (omega (arith, length-drop i s))
 
 pub word-in : (s : List ℕ) (i a n : ℕ) → i + 8 ≤ length s → n < 2 ^ 64
     → registerAfter (a * 2 ^ 64 + n) (drop i s) ≡ registerAfter (bitXor (steps 64 (bitXor (valueOf (take 8 (drop i s))) n)) a) (drop (i + 8) s)
 word-in s i a n h hn =
-    ap (registerAfter (a * 2 ^ 64 + n)) (part s i 8)
+    ap (registerAfter (a * 2 ^ 64 + n)) (drop-part s i 8)
     ∙ register-append (a * 2 ^ 64 + n) (take 8 (drop i s)) (drop (i + 8) s)
     ∙ ap (λ (r : ℕ). registerAfter r (drop (i + 8) s)) (register-word a n (take 8 (drop i s)) (length-part s i 8 h) hn)
 
 -- what came out is added to the word that is then the lowest
-pub into-low : (r a n : ℕ) → r < 2 ^ 64 → n < 2 ^ 64 → bitXor r (a * 2 ^ 64 + n) ≡ a * 2 ^ 64 + bitXor n r
-into-low r a n hr hn =
+xor-into-low : (r a n : ℕ) → r < 2 ^ 64 → n < 2 ^ 64 → bitXor r (a * 2 ^ 64 + n) ≡ a * 2 ^ 64 + bitXor n r
+xor-into-low r a n hr hn =
     xor-comm r (a * 2 ^ 64 + n)
     ∙ ap (bitXor (a * 2 ^ 64 + n)) (sym (ap (λ (x : ℕ). x + r) (zero-mul (2 ^ 64)) ∙ zero-add r))
     ∙ xor-block 64 a 0 n r hn hr
     ∙ ap (λ (x : ℕ). x * 2 ^ 64 + bitXor n r) (xor-zero-r a)
 
 -- ---- octets one at a time
+
 pub register-none : (c : ℕ) → registerAfter c [] ≡ c
 unfolding registerAfter steps
 register-none c = xor-zero-r c
@@ -71,11 +73,12 @@ octet-in s k c h hb =
     ∙ ap₂ (λ (x n : ℕ). registerAfter x (drop n s)) (register-octet c (getD s k 0) hb) (sym (add-one k))
 
 -- ---- five words at the end
+
 next-word : (s : List ℕ) (i j a n r q : ℕ) → j ≡ i + 8 → j ≤ length s → n < 2 ^ 64 → r < 2 ^ 64
     → q ≡ steps 64 (bitXor (valueOf (take 8 (drop i s))) (bitXor n r))
     → registerAfter (bitXor r (a * 2 ^ 64 + n)) (drop i s) ≡ registerAfter (bitXor q a) (drop j s)
 next-word s i j a n r q e h hn hr p =
-    ap (λ (x : ℕ). registerAfter x (drop i s)) (into-low r a n hr hn)
+    ap (λ (x : ℕ). registerAfter x (drop i s)) (xor-into-low r a n hr hn)
     ∙ word-in s i a (bitXor n r) (omega arith) (xor-lt 64 n r hn hr)
     ∙ ap₂ (λ (x k : ℕ). registerAfter (bitXor x a) (drop k s)) (sym p) (sym e)
 
@@ -106,11 +109,12 @@ narrowed-in s i n1 n2 n3 n4 n5 r1 r2 r3 r4 r5 h h1 h2 h3 h4 h5 k1 k2 k3 k4 p1 p2
     ∙ next-word s (i + 32) (i + 40) 0 n5 r4 r5 (omega arith) (omega arith) h5 (omega arith) p5
     ∙ ap (λ (x : ℕ). registerAfter x (drop (i + 40) s)) (xor-zero-r r5)
 
--- ---- parts of the whole
+-- ---- parts of a slice
+
 pub chunk-in : (s : List ℕ) (i n r q : ℕ) → q ≡ registerAfter r (take (i + n - i) (drop i s)) → registerAfter r (drop i s) ≡ registerAfter q (drop (i + n) s)
 chunk-in s i n r q p =
     let e : i + n - i ≡ n = omega arith in
-    ap (registerAfter r) (part s i n) ∙ register-append r (take n (drop i s)) (drop (i + n) s)
+    ap (registerAfter r) (drop-part s i n) ∙ register-append r (take n (drop i s)) (drop (i + n) s)
     ∙ ap (λ (x : ℕ). registerAfter x (drop (i + n) s)) (sym (p ∙ ap (λ (k : ℕ). registerAfter r (take k (drop i s))) e))
 
 pub rest-in : (s : List ℕ) (i r q : ℕ) → q ≡ registerAfter r (take (length s - i) (drop i s)) → q ≡ registerAfter r (drop i s)

@@ -26,35 +26,38 @@ wide-xor a0 a1 a2 a3 a4 b0 b1 b2 b3 b4 ha0 ha1 ha2 ha3 hb0 hb1 hb2 hb3 =
     ∙ ap (λ (x : ℕ). x * 2 ^ 64 + bitXor a2 b2) (xor-block 64 a4 b4 a3 b3 ha3 hb3)))
 
 -- a word shifted up by k: what stays in the word, and what goes into the next
-cross : (k j x : ℕ) → x * 2 ^ k ≡ x / 2 ^ j * 2 ^ (k + j) + x * 2 ^ k % 2 ^ (k + j)
-cross k j x =
+shift-across : (k j x : ℕ) → x * 2 ^ k ≡ x / 2 ^ j * 2 ^ (k + j) + x * 2 ^ k % 2 ^ (k + j)
+shift-across k j x =
     sym (split (x * 2 ^ k) (k + j))
     ∙ ap (λ (q : ℕ). q * 2 ^ (k + j) + x * 2 ^ k % 2 ^ (k + j)) (sym (shr-shr (x * 2 ^ k) k j) ∙ ap (λ (n : ℕ). n / 2 ^ j) (shl-shr x k))
 
 -- a word further up
-lift : (x k y : ℕ) → x * 2 ^ k ≡ y → x * 2 ^ (k + 64) ≡ y * 2 ^ 64 + 0
-lift x k y e =
+shift-word : (x k y : ℕ) → x * 2 ^ k ≡ y → x * 2 ^ (k + 64) ≡ y * 2 ^ 64 + 0
+shift-word x k y e =
     ap (λ (n : ℕ). x * n) (pow-add 2 k 64) ∙ sym (mul-assoc x (2 ^ k) (2 ^ 64)) ∙ ap (λ (z : ℕ). z * 2 ^ 64) e ∙ sym (add-zero (y * 2 ^ 64))
 
-under : (v u : ℕ) → v * 2 ^ 64 + u ≡ (0 + v) * 2 ^ 64 + u
-under v u = ap (λ (z : ℕ). z * 2 ^ 64 + u) (sym (zero-add v))
+no-word-above : (v u : ℕ) → v * 2 ^ 64 + u ≡ (0 + v) * 2 ^ 64 + u
+no-word-above v u = ap (λ (z : ℕ). z * 2 ^ 64 + u) (sym (zero-add v))
 
-s81 : (x : ℕ) → x * 2 ^ 81 ≡ wideRegister 0 (x * 2 ^ 17 % 2 ^ 64) (x / 2 ^ 47) 0 0
+-- ---- where the word comes back
+
+shifted-81 : (x : ℕ) → x * 2 ^ 81 ≡ wideRegister 0 (x * 2 ^ 17 % 2 ^ 64) (x / 2 ^ 47) 0 0
 unfolding wideRegister
-s81 x = lift x 17 _ (cross 17 47 x ∙ under (x / 2 ^ 47) (x * 2 ^ 17 % 2 ^ 64))
+shifted-81 x = shift-word x 17 _ (shift-across 17 47 x ∙ no-word-above (x / 2 ^ 47) (x * 2 ^ 17 % 2 ^ 64))
 
-s119 : (x : ℕ) → x * 2 ^ 119 ≡ wideRegister 0 (x * 2 ^ 55 % 2 ^ 64) (x / 2 ^ 9) 0 0
+shifted-119 : (x : ℕ) → x * 2 ^ 119 ≡ wideRegister 0 (x * 2 ^ 55 % 2 ^ 64) (x / 2 ^ 9) 0 0
 unfolding wideRegister
-s119 x = lift x 55 _ (cross 55 9 x ∙ under (x / 2 ^ 9) (x * 2 ^ 55 % 2 ^ 64))
+shifted-119 x = shift-word x 55 _ (shift-across 55 9 x ∙ no-word-above (x / 2 ^ 9) (x * 2 ^ 55 % 2 ^ 64))
 
-s147 : (x : ℕ) → x * 2 ^ 147 ≡ wideRegister 0 0 (x * 2 ^ 19 % 2 ^ 64) (x / 2 ^ 45) 0
+shifted-147 : (x : ℕ) → x * 2 ^ 147 ≡ wideRegister 0 0 (x * 2 ^ 19 % 2 ^ 64) (x / 2 ^ 45) 0
 unfolding wideRegister
-s147 x = lift x 83 _ (lift x 19 _ (cross 19 45 x ∙ under (x / 2 ^ 45) (x * 2 ^ 19 % 2 ^ 64)))
+shifted-147 x = shift-word x 83 _ (shift-word x 19 _ (shift-across 19 45 x ∙ no-word-above (x / 2 ^ 45) (x * 2 ^ 19 % 2 ^ 64)))
 
-s236 : (x : ℕ) → x * 2 ^ 236 ≡ wideRegister 0 0 0 (x * 2 ^ 44 % 2 ^ 64) (x / 2 ^ 20)
+shifted-236 : (x : ℕ) → x * 2 ^ 236 ≡ wideRegister 0 0 0 (x * 2 ^ 44 % 2 ^ 64) (x / 2 ^ 20)
 unfolding wideRegister
-s236 x = lift x 172 _ (lift x 108 _ (lift x 44 _ (cross 44 20 x)))
+shifted-236 x = shift-word x 172 _ (shift-word x 108 _ (shift-word x 44 _ (shift-across 44 20 x)))
 
+-- the word at the four places, 300 less 64 steps early
 spread : ℕ → ℕ
 spread x = bitXor (x * 2 ^ 81) (bitXor (x * 2 ^ 119) (bitXor (x * 2 ^ 147) (x * 2 ^ 236)))
 
@@ -77,9 +80,9 @@ spread-runs l x h hx =
     (steps-xor 236 (x * 2 ^ 119) (bitXor (x * 2 ^ 147) (x * 2 ^ 236))
     ∙ ap₂ bitXor (run-back 119 117 x) (steps-xor 236 (x * 2 ^ 147) (x * 2 ^ 236) ∙ ap₂ bitXor (run-back 147 89 x) (steps-shifted 236 x)))))
 
-wide4 : (n2 n3 n4 n5 : ℕ) → ((n5 * 2 ^ 64 + n4) * 2 ^ 64 + n3) * 2 ^ 64 + n2 ≡ wideRegister n2 n3 n4 n5 0
+four-words : (n2 n3 n4 n5 : ℕ) → ((n5 * 2 ^ 64 + n4) * 2 ^ 64 + n3) * 2 ^ 64 + n2 ≡ wideRegister n2 n3 n4 n5 0
 unfolding wideRegister
-wide4 n2 n3 n4 n5 = ap (λ (x : ℕ). ((x * 2 ^ 64 + n4) * 2 ^ 64 + n3) * 2 ^ 64 + n2) (sym (zero-add n5))
+four-words n2 n3 n4 n5 = ap (λ (x : ℕ). ((x * 2 ^ 64 + n4) * 2 ^ 64 + n3) * 2 ^ 64 + n2) (sym (zero-add n5))
 
 low-lt : (x k : ℕ) → x * 2 ^ k % 2 ^ 64 < 2 ^ 64
 low-lt x k = mod-lt (x * 2 ^ k) (lit< tt)
@@ -93,16 +96,18 @@ spread-is : (x : ℕ) → x < 2 ^ 64
     (bitXor (x / 2 ^ 45) (x * 2 ^ 44 % 2 ^ 64)) (x / 2 ^ 20)
 unfolding spread
 spread-is x h =
-    ap₂ bitXor (s81 x)
-    (ap₂ bitXor (s119 x)
-    (ap₂ bitXor (s147 x) (s236 x)
+    ap₂ bitXor (shifted-81 x)
+    (ap₂ bitXor (shifted-119 x)
+    (ap₂ bitXor (shifted-147 x) (shifted-236 x)
     ∙ wide-xor 0 0 (x * 2 ^ 19 % 2 ^ 64) (x / 2 ^ 45) 0 0 0 0 (x * 2 ^ 44 % 2 ^ 64) (x / 2 ^ 20) (lit< tt) (lit< tt) (low-lt x 19) (high-lt x 45 h) (lit< tt) (lit< tt) (lit< tt) (low-lt x 44)
     ∙ ap (λ (y : ℕ). wideRegister 0 0 y (bitXor (x / 2 ^ 45) (x * 2 ^ 44 % 2 ^ 64)) (x / 2 ^ 20)) (xor-zero-r (x * 2 ^ 19 % 2 ^ 64)))
     ∙ wide-xor 0 (x * 2 ^ 55 % 2 ^ 64) (x / 2 ^ 9) 0 0 0 0 (x * 2 ^ 19 % 2 ^ 64) (bitXor (x / 2 ^ 45) (x * 2 ^ 44 % 2 ^ 64)) (x / 2 ^ 20) (lit< tt) (low-lt x 55) (high-lt x 9 h) (lit< tt) (lit< tt) (lit< tt) (low-lt x 19) (xor-lt 64 (x / 2 ^ 45) (x * 2 ^ 44 % 2 ^ 64) (high-lt x 45 h) (low-lt x 44))
     ∙ ap (λ (y : ℕ). wideRegister 0 y (bitXor (x / 2 ^ 9) (x * 2 ^ 19 % 2 ^ 64)) (bitXor (x / 2 ^ 45) (x * 2 ^ 44 % 2 ^ 64)) (x / 2 ^ 20)) (xor-zero-r (x * 2 ^ 55 % 2 ^ 64)))
     ∙ wide-xor 0 (x * 2 ^ 17 % 2 ^ 64) (x / 2 ^ 47) 0 0 0 (x * 2 ^ 55 % 2 ^ 64) (bitXor (x / 2 ^ 9) (x * 2 ^ 19 % 2 ^ 64)) (bitXor (x / 2 ^ 45) (x * 2 ^ 44 % 2 ^ 64)) (x / 2 ^ 20) (lit< tt) (low-lt x 17) (high-lt x 47 h) (lit< tt) (lit< tt) (low-lt x 55) (xor-lt 64 (x / 2 ^ 9) (x * 2 ^ 19 % 2 ^ 64) (high-lt x 9 h) (low-lt x 19)) (xor-lt 64 (x / 2 ^ 45) (x * 2 ^ 44 % 2 ^ 64) (high-lt x 45 h) (low-lt x 44))
 
--- the words of the register, below 2 ^ 64
+-- ---- the turn
+
+-- the words of the register are words
 pub record FiveWords (n1 n2 n3 n4 n5 : ℕ) : Type 0 where
   pub l1 : n1 < 2 ^ 64
   pub l2 : n2 < 2 ^ 64
@@ -110,17 +115,18 @@ pub record FiveWords (n1 n2 n3 n4 n5 : ℕ) : Type 0 where
   pub l4 : n4 < 2 ^ 64
   pub l5 : n5 < 2 ^ 64
 
+-- the words after a turn that takes x out: second, third and fourth; the first is the old second, the fifth x / 2 ^ 20
 module _ (n3 n4 n5 x : ℕ) where
-  abbrev pub t2 : ℕ
-  t2 = bitXor n3 (bitXor (x * 2 ^ 17 % 2 ^ 64) (x * 2 ^ 55 % 2 ^ 64))
+  abbrev pub second : ℕ
+  second = bitXor n3 (bitXor (x * 2 ^ 17 % 2 ^ 64) (x * 2 ^ 55 % 2 ^ 64))
 
-  abbrev pub t3 : ℕ
-  t3 = bitXor n4 (bitXor (x / 2 ^ 47) (bitXor (x / 2 ^ 9) (x * 2 ^ 19 % 2 ^ 64)))
+  abbrev pub third : ℕ
+  third = bitXor n4 (bitXor (x / 2 ^ 47) (bitXor (x / 2 ^ 9) (x * 2 ^ 19 % 2 ^ 64)))
 
-  abbrev pub t4 : ℕ
-  t4 = bitXor n5 (bitXor (x / 2 ^ 45) (x * 2 ^ 44 % 2 ^ 64))
+  abbrev pub fourth : ℕ
+  fourth = bitXor n5 (bitXor (x / 2 ^ 45) (x * 2 ^ 44 % 2 ^ 64))
 
-pub turned-words : (n1 n2 n3 n4 n5 x : ℕ) → FiveWords n1 n2 n3 n4 n5 → x < 2 ^ 64 → FiveWords n2 (t2 n3 n4 n5 x) (t3 n3 n4 n5 x) (t4 n3 n4 n5 x) (x / 2 ^ 20)
+pub turned-words : (n1 n2 n3 n4 n5 x : ℕ) → FiveWords n1 n2 n3 n4 n5 → x < 2 ^ 64 → FiveWords n2 (second n3 n4 n5 x) (third n3 n4 n5 x) (fourth n3 n4 n5 x) (x / 2 ^ 20)
 turned-words n1 n2 n3 n4 n5 x f h =
     record {
       l1 = f .l2;
@@ -132,7 +138,7 @@ turned-words n1 n2 n3 n4 n5 x f h =
 
 pub turned : (s : List ℕ) (i n1 n2 n3 n4 n5 w : ℕ) → i + 48 ≤ length s → FiveWords n1 n2 n3 n4 n5 → w ≡ valueOf (take 8 (drop i s)) → w < 2 ^ 64
     → registerAfter (wideRegister n1 n2 n3 n4 n5) (drop i s)
-    ≡ registerAfter (wideRegister n2 (t2 n3 n4 n5 (bitXor w n1)) (t3 n3 n4 n5 (bitXor w n1)) (t4 n3 n4 n5 (bitXor w n1)) (bitXor w n1 / 2 ^ 20)) (drop (i + 8) s)
+    ≡ registerAfter (wideRegister n2 (second n3 n4 n5 (bitXor w n1)) (third n3 n4 n5 (bitXor w n1)) (fourth n3 n4 n5 (bitXor w n1)) (bitXor w n1 / 2 ^ 20)) (drop (i + 8) s)
 unfolding wideRegister
 turned s i n1 n2 n3 n4 n5 w h f p hw =
     let x = bitXor w n1 in
@@ -147,9 +153,9 @@ turned s i n1 n2 n3 n4 n5 w h f p hw =
     ∙ sym (register-xor (spread x) a l)
     ∙ ap (λ (y : ℕ). registerAfter y l)
     (xor-comm (spread x) a
-    ∙ ap₂ bitXor (wide4 n2 n3 n4 n5) (spread-is x hx)
+    ∙ ap₂ bitXor (four-words n2 n3 n4 n5) (spread-is x hx)
     ∙ wide-xor n2 n3 n4 n5 0 0 _ _ _ (x / 2 ^ 20) (f .l2) (f .l3) (f .l4) (f .l5) (lit< tt)
     (xor-lt 64 _ _ (low-lt x 17) (low-lt x 55))
     (xor-lt 64 _ _ (high-lt x 47 hx) (xor-lt 64 _ _ (high-lt x 9 hx) (low-lt x 19)))
     (xor-lt 64 _ _ (high-lt x 45 hx) (low-lt x 44))
-    ∙ ap (λ (y : ℕ). wideRegister y (t2 n3 n4 n5 x) (t3 n3 n4 n5 x) (t4 n3 n4 n5 x) (x / 2 ^ 20)) (xor-zero-r n2))
+    ∙ ap (λ (y : ℕ). wideRegister y (second n3 n4 n5 x) (third n3 n4 n5 x) (fourth n3 n4 n5 x) (x / 2 ^ 20)) (xor-zero-r n2))

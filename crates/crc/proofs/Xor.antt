@@ -1,5 +1,4 @@
--- More laws of `bitXor`: it is associative, so that sums modulo 2 can be regrouped.
--- Assumes nothing.
+-- More laws of `bitXor`: it is associative, so that sums modulo 2 can be regrouped. Assumes nothing.
 use mathlib.Core.Path.{_≡_, refl, sym, ap, ap₂, _∙_}
 use Prim.Native.Nat.{ℕ, zero, suc, _+_, _*_, _/_, _%_, _<_}
 use native.Mathlib.Nat.{mod-lt, le-of-suc-le-suc, not-suc-le-zero}
@@ -27,18 +26,18 @@ differ-assoc (suc zero) (suc zero) (suc (suc z)) hx hy hz = absurd (not-suc-le-z
 differ-assoc (suc zero) (suc (suc y)) (suc z) hx hy hz = absurd (not-suc-le-zero (le-of-suc-le-suc (le-of-suc-le-suc hy)))
 differ-assoc (suc (suc x)) (suc y) (suc z) hx hy hz = absurd (not-suc-le-zero (le-of-suc-le-suc (le-of-suc-le-suc hx)))
 
-two : 0 < 2
-two = lit< tt
+pub two-pos : 0 < 2
+two-pos = lit< tt
 
 pub xor-half : (a b : ℕ) → bitXor a b / 2 ≡ bitXor (a / 2) (b / 2)
 xor-half a b =
     ap (λ (x : ℕ). x / 2) (xor-step a b)
-    ∙ digits-div (bitXor (a / 2) (b / 2)) (differ-lt (a % 2) (b % 2) (mod-lt a two) (mod-lt b two))
+    ∙ digits-div (bitXor (a / 2) (b / 2)) (differ-lt (a % 2) (b % 2) (mod-lt a two-pos) (mod-lt b two-pos))
 
 pub xor-odd : (a b : ℕ) → bitXor a b % 2 ≡ differ (a % 2) (b % 2)
 xor-odd a b =
     ap (λ (x : ℕ). x % 2) (xor-step a b)
-    ∙ digits-mod (bitXor (a / 2) (b / 2)) (differ-lt (a % 2) (b % 2) (mod-lt a two) (mod-lt b two))
+    ∙ digits-mod (bitXor (a / 2) (b / 2)) (differ-lt (a % 2) (b % 2) (mod-lt a two-pos) (mod-lt b two-pos))
 
 pub xor-assoc : (a b c : ℕ) → bitXor (bitXor a b) c ≡ bitXor a (bitXor b c)
 xor-assoc a =
@@ -46,7 +45,7 @@ xor-assoc a =
     (λ n ih b c.
     xor-step (bitXor n b) c
     ∙ ap₂ (λ (x y : ℕ). bitXor x (c / 2) * 2 + differ y (c % 2)) (xor-half n b) (xor-odd n b)
-    ∙ ap₂ (λ (x y : ℕ). x * 2 + y) (ih (b / 2) (c / 2)) (differ-assoc (n % 2) (b % 2) (c % 2) (mod-lt n two) (mod-lt b two) (mod-lt c two))
+    ∙ ap₂ (λ (x y : ℕ). x * 2 + y) (ih (b / 2) (c / 2)) (differ-assoc (n % 2) (b % 2) (c % 2) (mod-lt n two-pos) (mod-lt b two-pos) (mod-lt c two-pos))
     ∙ sym (ap₂ (λ (x y : ℕ). bitXor (n / 2) x * 2 + differ (n % 2) y) (xor-half b c) (xor-odd b c))
     ∙ sym (xor-step n (bitXor b c))) a
 

@@ -49,13 +49,17 @@ divide g (suc k) (true ∷ p) = divide g k (rest (sum (true ∷ p) g))
 unfoldable pub remainder : Poly → Poly → Poly
 remainder p g = divide g (length p - length (rest g)) p
 
+-- the sum of any two: zeros go before the shorter, so that equal powers stand together
+unfoldable pub add : Poly → Poly → Poly
+add p q = sum (replicate (length q - length p) false ++ p) (replicate (length p - length q) false ++ q)
+
 -- the product: (a x ^ k + q) g = a x ^ k g + q g
 unfoldable pub product : Poly → Poly → Poly
 product [] g = []
-product (a ∷ q) g = sum (times (length q) (map (λ b. a && b) g)) (false ∷ product q g)
+product (a ∷ q) g = add (times (length q) (map (λ b. a && b) g)) (product q g)
 
--- what makes r the remainder of p divided by g: p = q g + r for a polynomial q, and r is of lower degree than g
+-- what makes r a remainder of p divided by g: p = q g + r for some q, and r is of lower degree than g
 pub record IsRemainder (p g r : Poly) : Type 0 where
-  pub q : Poly
-  pub whole : p ≡ sum (product q g) (replicate (length q) false ++ r)
+  pub quotient : Poly
+  pub whole : p ≡ add (product quotient g) r
   pub lower : length r < length g

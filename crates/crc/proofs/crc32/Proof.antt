@@ -1,4 +1,4 @@
--- `crc::crc32` meets its contract: the complement of the register is the sequence of V.42. Assumes nothing.
+-- `crc32`: the complement of the register is the sequence of V.42 (`crc-is-register`).
 use mathlib.Core.Path.{sym, ap, _∙_}
 use Prim.Native.Nat.{ℕ, _-_, _^_}
 use denote.Ref.{now}

@@ -1,4 +1,4 @@
--- `crc::folded` meets its contract. Assumes nothing.
+-- `after_long`: what is left over has the register of the whole (`folding-done`).
 use mathlib.Core.Path.{_∙_}
 use native.Mathlib.Omega.{arith}
 use denote.Ref.{now}

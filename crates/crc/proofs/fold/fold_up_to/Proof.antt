@@ -1,9 +1,10 @@
+-- `fold_up_to`: one more octet is folded a turn (`folding-more`).
 use mathlib.Core.Path.{subst}
 use Prim.Native.Nat.{ℕ, _-_, _≤_}
 use native.Mathlib.Omega.{arith}
 use denote.Ref.{now}
 use Rattle.crc.specs.Folds.{Folding}
-use Rattle.crc.proofs.Folding.{more}
+use Rattle.crc.proofs.Folding.{folding-more}
 use Rattle.crc.proofs.fold.fold_up_to.Statement.{statement}
 use Rattle.crc.proofs.fold.fold_up_to.Tie as tie
 
@@ -59,7 +60,7 @@ loop-again : tie.Need-loop-again Inv-loop μ-loop
 loop-again c =
     let l = c .before .before .before .before .before .before .loop in
     let r = c .before .before .before .before .before .before .before .args in
-    (omega arith, more (r .start) (now (r .octets)) (l .sums) (l .j) (omega arith) (l .inv .1))
+    (omega arith, folding-more (r .start) (now (r .octets)) (l .sums) (l .j) (omega arith) (l .inv .1))
 
 returns : tie.Need-returns Inv-loop μ-loop
 returns c =

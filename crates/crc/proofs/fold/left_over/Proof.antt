@@ -1,3 +1,4 @@
+-- `left_over`: one more octet is there a turn (`left-more`).
 use mathlib.Core.Path.{subst}
 use Prim.Native.Nat.{ℕ, _-_, _≤_}
 use native.Mathlib.Nat.{not-suc-le-zero}

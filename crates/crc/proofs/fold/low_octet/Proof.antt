@@ -1,4 +1,4 @@
--- `crc::low` meets its contract. Assumes nothing.
+-- `low_octet`: a mask of eight bits is the number modulo 256.
 use lib.Bits.{and-mask, mask-lt}
 use Rattle.crc.proofs.fold.low_octet.Statement.{statement}
 use Rattle.crc.proofs.fold.low_octet.Tie as tie

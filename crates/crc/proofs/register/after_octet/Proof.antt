@@ -1,4 +1,4 @@
--- `crc::octet` meets its contract: eight steps are eight calls of `one`. Assumes nothing.
+-- `after_octet`: eight steps are eight calls of `one_step`.
 use mathlib.Core.Path.{ap, _∙_}
 use borrow.Author.Needs.{needs}
 use Rattle.crc.specs.Register.{step, steps}

@@ -1,4 +1,4 @@
--- `crc::octets` meets its contract: the register at each turn, with the octets left, comes to the same. Assumes nothing.
+-- `after_octets`: at each turn the register, with the octets that are left, comes to the same (`octet-in`).
 use mathlib.Core.Path.{_≡_, refl, sym, ap, _∙_}
 use Prim.Native.Nat.{ℕ, _+_, _-_, _≤_, _<_}
 use native.Mathlib.Omega.{arith}

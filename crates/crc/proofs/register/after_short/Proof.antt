@@ -1,4 +1,4 @@
--- `crc::short` meets its contract. Assumes nothing.
+-- `after_short`: at each turn the register, with the octets that are left, comes to the same (`eight-in`).
 use mathlib.Core.Path.{_≡_, refl, sym, _∙_}
 use Prim.Native.Nat.{_+_, _-_, _≤_, _<_, _^_}
 use native.Mathlib.Omega.{arith}

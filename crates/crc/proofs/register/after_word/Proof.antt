@@ -1,4 +1,4 @@
--- `crc::word` meets its contract. Assumes nothing.
+-- `after_word`: the contracts of its callees, put together.
 use mathlib.Core.Path.{ap, _∙_}
 use Prim.Native.Nat.{ℕ}
 use lib.Bits.{bitXor}

@@ -1,4 +1,4 @@
--- `crc::at` meets its contract. Assumes nothing.
+-- `octet_at`: an octet is below 256.
 use mathlib.Core.Path.{refl}
 use native.Mathlib.Omega.{arith}
 use borrow.Author.Needs.{needs}

@@ -1,4 +1,4 @@
--- `crc::one` meets its contract: it is the definition, with the low-order bit taken by a mask. Assumes nothing.
+-- `one_step`: the definition, with the low-order bit taken by a mask.
 use mathlib.Core.Path.{ap}
 use Prim.Native.Nat.{ℕ, _*_, _/_, _<_}
 use native.Mathlib.Nat.{mod-lt}

@@ -1,10 +1,8 @@
--- `crc::load` meets its contract. Assumes nothing.
+-- `word_at`: eight octets, each shifted to its place, are the number that they stand for (`value-eight`).
 use mathlib.Core.Path.{sym, ap, _∙_}
-use mathlib.Core.List.{List}
-use Prim.Native.Nat.{ℕ}
 use denote.Ref.{now}
-use Rattle.crc.specs.V42.{content, number}
-use Rattle.crc.proofs.Octets.{value-eight, take-eight, cells}
+use Rattle.crc.specs.Register.{valueOf}
+use Rattle.crc.proofs.Octets.{value-eight, take-eight, eight-cells}
 use borrow.Author.Needs.{needs}
 use Rattle.crc.proofs.register.word_at.Statement.{statement}
 use Rattle.crc.proofs.register.word_at.Tie as tie
@@ -68,8 +66,8 @@ returns c =
     let r7 = c .octet-at8 in
     value-eight (r0 .result) (r1 .result) (r2 .result) (r3 .result) (r4 .result) (r5 .result) (r6 .result) (r7 .result)
     (r0 .ensures .1) (r1 .ensures .1) (r2 .ensures .1) (r3 .ensures .1) (r4 .ensures .1) (r5 .ensures .1) (r6 .ensures .1) (r7 .ensures .1)
-    ∙ sym (ap (λ (l : List ℕ). number (content l)) (take-eight (now (a .octets)) (a .i) (s0 .pre)
-    ∙ cells (sym (r0 .ensures .0)) (sym (r1 .ensures .0)) (sym (r2 .ensures .0)) (sym (r3 .ensures .0)) (sym (r4 .ensures .0)) (sym (r5 .ensures .0)) (sym (r6 .ensures .0)) (sym (r7 .ensures .0))))
+    ∙ sym (ap valueOf (take-eight (now (a .octets)) (a .i) (s0 .pre)
+    ∙ eight-cells (sym (r0 .ensures .0)) (sym (r1 .ensures .0)) (sym (r2 .ensures .0)) (sym (r3 .ensures .0)) (sym (r4 .ensures .0)) (sym (r5 .ensures .0)) (sym (r6 .ensures .0)) (sym (r7 .ensures .0))))
 
 pub word-at-spec : {M : Type 1} → statement M
 word-at-spec =

@@ -1,4 +1,4 @@
--- `crc::words` meets its contract: at each turn the register of 320 bits, with the octets left, comes to the same. Assumes nothing.
+-- `after_medium`: at each turn the register of 320 bits, with the octets that are left, comes to the same (`turned`).
 use mathlib.Core.Path.{_≡_, sym, ap, _∙_}
 use Prim.Native.Nat.{ℕ, _+_, _-_, _≤_, _<_, _^_}
 use native.Mathlib.Nat.{zero-add}

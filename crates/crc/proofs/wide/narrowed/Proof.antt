@@ -1,4 +1,4 @@
--- `crc::five` meets its contract. Assumes nothing.
+-- `narrowed`: what a word leaves goes into the next, five times (`narrowed-in`).
 use denote.Ref.{now}
 use Rattle.crc.proofs.Taken.{narrowed-in}
 use borrow.Author.Needs.{needs}
