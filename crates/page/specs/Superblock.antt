@@ -1,0 +1,74 @@
+-- Document 01, "Page, trailer, superblock": the fields of page 0, read plainly and checked. Assumes nothing.
+use Prim.Native.Nat.{ℕ, _-_}
+use mathlib.Core.Bool.{Bool, false, not}
+use mathlib.Core.List.{List}
+use lib.Bits.{bitAnd}
+use lib.Dec.{eqb}
+use lib.ListN.{length}
+use Rattle.lists.specs.Cases.{pick}
+use Rattle.lists.specs.Bytes.{byteAt, pairAt, quadAt}
+use Rattle.answers.specs.declared.kinds.Answer.{Answer}
+use Rattle.answers.specs.declared.kinds.Answer.the-variants.{Accepted, WrongPageLength, BadMagic}
+use Rattle.page.specs.Trailer.{isPage}
+use Rattle.page.specs.Marker.{marker, occursIn}
+use Rattle.page.specs.declared.superblocks.FormatVersion.{FormatVersion}
+use Rattle.page.specs.declared.superblocks.Superblock.{Superblock}
+use Rattle.page.specs.declared.superblocks.SuperblockAnswer.{SuperblockAnswer}
+
+-- the supported version, 3.201.12
+abbrev pub sa17 : FormatVersion
+sa17 = record { major = 3; a = 201; b = 12 }
+
+-- a version is supported if it is that one
+abbrev pub isSupported : FormatVersion → Bool
+isSupported v = pick (eqb (v .major) (sa17 .major)) (pick (eqb (v .a) (sa17 .a)) (eqb (v .b) (sa17 .b)) false) false
+
+-- the flags without 0x09
+abbrev pub variantBits : ℕ → ℕ
+variantBits flags = bitAnd flags (255 - 0x09)
+
+-- the magic, at 0x14
+abbrev pub magicOf : List ℕ → ℕ
+magicOf s = quadAt s 0x14
+
+-- flags byte 6, LSN at 8, major 0x10, magic 0x14, version halves 0x18 and 0x1A, page hint 0x1C, and the marker anywhere
+unfoldable pub superblockOf : List ℕ → Superblock
+superblockOf s =
+    record {
+      «flags_06» = byteAt s 0x06;
+      «flags_06_variant_bits» = variantBits (byteAt s 0x06);
+      «current_lsn» = quadAt s 0x08;
+      format = record { major = quadAt s 0x10; a = pairAt s 0x18; b = pairAt s 0x1A };
+      magic = magicOf s;
+      «page_count_hint» = quadAt s 0x1C;
+      «sa_marker_present» = occursIn marker s;
+    }
+
+-- what stands beside a refusal
+abbrev pub blankSuperblock : Superblock
+blankSuperblock =
+    record {
+      «flags_06» = 0;
+      «flags_06_variant_bits» = 0;
+      «current_lsn» = 0;
+      format = record { major = 0; a = 0; b = 0 };
+      magic = 0;
+      «page_count_hint» = 0;
+      «sa_marker_present» = false;
+    }
+
+abbrev pub refusedOf : Answer → SuperblockAnswer
+refusedOf a = record { answer = a; superblock = blankSuperblock }
+
+abbrev pub acceptedOf : List ℕ → SuperblockAnswer
+acceptedOf s = record { answer = Accepted; superblock = superblockOf s }
+
+-- plainly: 1
+unfoldable pub parsedOf : List ℕ → SuperblockAnswer
+parsedOf s = pick (not (isPage s)) (refusedOf (WrongPageLength (length s))) (acceptedOf s)
+
+-- checked: 1, then 13 with any magic but 0xDA7ABA5E
+unfoldable pub checkedOf : List ℕ → SuperblockAnswer
+checkedOf s =
+    pick (not (isPage s)) (refusedOf (WrongPageLength (length s)))
+    (pick (not (eqb (magicOf s) 0xDA7ABA5E)) (refusedOf (BadMagic (magicOf s))) (acceptedOf s))
