@@ -1,0 +1,10 @@
+-- Laws of the shifted bytes and of the fit, by subject.
+pub mod Meaning
+pub mod Bytes
+pub mod Shifts
+pub mod Leads
+pub mod Sorted
+pub mod Exact
+pub mod Found
+pub mod Scans
+pub mod Blocks

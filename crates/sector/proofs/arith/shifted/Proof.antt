@@ -1,0 +1,43 @@
+-- `shifted` meets its contract: two wrapping differences, and a place that was reduced before it was multiplied.
+use borrow.Author.Needs.{needs}
+use Prim.Native.Nat.{ℕ, _*_, _%_}
+use mathlib.Core.Path.{ap, _∙_}
+use native.Mathlib.Nat.{mod-mod}
+use native.Mathlib.Omega.{arith}
+use Rattle.lists.specs.Bytes.{less}
+use Rattle.sector.specs.Byte.{shiftedOf}
+use Rattle.sector.proofs.Bytes.{less-of, less-mod, mul-mod}
+use Rattle.sector.proofs.arith.shifted.Statement.{statement}
+use Rattle.sector.proofs.arith.shifted.Tie as tie
+
+cast-wrapping-mul-u8 : tie.Need-cast-wrapping-mul-u8
+cast-wrapping-mul-u8 c = search needs
+
+wrapping-mul-u8-requires : tie.Need-wrapping-mul-u8-requires
+wrapping-mul-u8-requires c κs = search needs
+
+wrapping-sub-u8-requires : tie.Need-wrapping-sub-u8-requires
+wrapping-sub-u8-requires c κs = search needs
+
+wrapping-sub-u8-requires-2 : tie.Need-wrapping-sub-u8-requires-2
+wrapping-sub-u8-requires-2 c κs = search needs
+
+returns : tie.Need-returns
+unfolding shiftedOf
+returns c =
+    let a = c .before .before .before .args in
+    let d = c .before .wrapping-sub-u8 in
+    less-of (d .result) (c .before .before .wrapping-mul-u8 .result) (c .wrapping-sub-u82 .result) (search needs) (c .wrapping-sub-u82 .ensures)
+    ∙ less-mod _ _ (less (a .b) (a .offset)) (a .i * a .step)
+    (ap (λ (x : ℕ). x % 256) (less-of (a .b) (a .offset) (d .result) (search needs) (d .ensures)))
+    (ap (λ (x : ℕ). x % 256) (c .before .before .wrapping-mul-u8 .ensures) ∙ mod-mod _ 256 ∙ mul-mod (a .i) (a .step))
+
+pub shifted-spec : {M : Type 1} → statement M
+shifted-spec =
+    tie.close
+    (tie.spec
+    cast-wrapping-mul-u8
+    wrapping-mul-u8-requires
+    wrapping-sub-u8-requires
+    wrapping-sub-u8-requires-2
+    returns)

@@ -1,0 +1,80 @@
+-- `fit_of` meets its contract: after each step, what leads and what comes second.
+use borrow.Author.Needs.{needs}
+use Prim.Native.Nat.{ℕ, _+_, _-_, _≤_, _<_}
+use mathlib.Core.Path.{_≡_, refl, _∙_, subst}
+use mathlib.Core.Logic.{⊎-elim}
+use native.Mathlib.Omega.{arith}
+use denote.Ref.{now}
+use Rattle.sector.specs.Fit.{modalAt}
+use Rattle.sector.proofs.Leads.{Leads, leads-none, leads-up, leads-stay, leads-as}
+use Rattle.sector.proofs.Found.{leads-fit}
+use Rattle.sector.proofs.scan.fit_of.Statement.{statement}
+use Rattle.sector.proofs.scan.fit_of.Tie as tie
+
+abbrev Inv-loop : tie.InvT-loop
+Inv-loop stored offset best-step₀ best₀ runner-up₀ step₀ best-step best runner-up step =
+    (step ≤ 256) × (best < 65536) × Leads (modalAt offset stored) step best-step best runner-up
+
+abbrev μ-loop : tie.MeasureT-loop
+μ-loop stored offset best-step₀ best₀ runner-up₀ step₀ best-step best runner-up step = 256 - step
+
+loop-holds : tie.Need-loop-holds Inv-loop μ-loop
+loop-holds c = (search needs, search needs, leads-none (modalAt (c .before .args .offset) (now (c .before .args .stored))))
+
+cast-k : tie.Need-cast-k Inv-loop μ-loop
+cast-k c = search needs
+
+modal-count-requires : tie.Need-modal-count-requires Inv-loop μ-loop
+modal-count-requires c κs = search needs
+
+add-step : tie.Need-add-step Inv-loop μ-loop
+add-step c = search needs
+
+loop-less : tie.Need-loop-less Inv-loop μ-loop
+loop-less c = search needs
+
+loop-again : tie.Need-loop-again Inv-loop μ-loop
+loop-again c =
+    let a = c .before .before .before .before .before .args in
+    let l = c .before .before .before .loop in
+    let p = c .before .modal-count in
+    let f : ℕ → ℕ = modalAt (a .offset) (now (a .stored)) in
+    let x : p .result ≡ f (l .step) = p .ensures in (
+      omega arith,
+      ⊎-elim (λ w. omega (arith, w .2)) (⊎-elim (λ w. omega (arith, w .3)) (λ w. omega (arith, w .3))) (c .if1 .came),
+      ⊎-elim
+          (λ w. leads-as f (l .step + 1) (w .1) (w .2 ∙ x) (w .3)
+          (leads-up f (l .step) (l .best-step) (l .best) (l .runner-up) (l .inv .2) (omega (arith, x, w .0 .taken))))
+          (⊎-elim
+          (λ w. leads-as f (l .step + 1) (w .2) (w .3) refl
+          (leads-stay f (l .step) (l .best-step) (l .best) (l .runner-up) (l .inv .2) (c .if1 .runner-up) (omega (arith, x, w .0 .left)) (omega (arith, x, w .4, w .1 .taken))))
+          (λ w. leads-as f (l .step + 1) (w .2) (w .3) refl
+          (leads-stay f (l .step) (l .best-step) (l .best) (l .runner-up) (l .inv .2) (c .if1 .runner-up) (omega (arith, x, w .0 .left)) (omega (arith, x, w .4, w .1 .left)))))
+          (c .if1 .came),
+    )
+
+cast-t11 : tie.Need-cast-t11 Inv-loop μ-loop
+cast-t11 c = search needs
+
+returns : tie.Need-returns Inv-loop μ-loop
+returns c =
+    let a = c .before .before .before .args in
+    let l = c .before .loop in
+    let e : l .step ≡ 256 = omega arith in
+    leads-fit (a .offset) (now (a .stored)) (l .best-step) (l .best) (l .runner-up)
+    (subst (λ (n : ℕ). Leads (modalAt (a .offset) (now (a .stored))) n (l .best-step) (l .best) (l .runner-up)) e (l .inv .2))
+
+pub fit-of-spec : {M : Type 1} → statement M
+fit-of-spec =
+    tie.close
+    (tie.spec
+    Inv-loop
+    μ-loop
+    loop-holds
+    cast-k
+    modal-count-requires
+    add-step
+    loop-less
+    loop-again
+    cast-t11
+    returns)

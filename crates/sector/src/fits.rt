@@ -1,0 +1,30 @@
+// The fit of a sector.
+ghost use mathlib.Core.Path.{_≡_};
+ghost use Rattle.sector.specs.Fit.{confidentOf};
+
+// The step of a sector, the bytes that agree under it, the bytes that agree under the next best, and whether all agree.
+pub struct Fit {
+    pub step: u8,
+    pub peak: u16,
+    pub runner_up: u16,
+    pub exact: bool,
+}
+
+impl Fit {
+    // Random sectors reach peaks of 9 to 13, so 24 is well clear of chance.
+    pub const MIN_STEP_PEAK: u32 = 24;
+
+    pub const MIN_STEP_LEAD: u32 = 12;
+
+    // The step is beyond doubt. Of what no scan gives, too: the sum cannot wrap.
+    pub fn confident(self) -> bool
+        ensures { λ r. ⌜ r ≡ confidentOf self ⌝ }
+    {
+        if self.exact {
+            return true;
+        }
+        let peak = self.peak as u32;
+        let runner_up = self.runner_up as u32;
+        peak >= Fit::MIN_STEP_PEAK && peak >= runner_up + Fit::MIN_STEP_LEAD
+    }
+}

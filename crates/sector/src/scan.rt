@@ -1,0 +1,111 @@
+// The scan of a sector: a histogram for each of the 256 steps.
+ghost use mathlib.Core.Path.{_≡_};
+ghost use Prim.Native.Nat.{ℕ, _≤_};
+ghost use lib.ListN.{length, getD};
+ghost use Rattle.lists.specs.Counts.{greatest, Tallies};
+ghost use Rattle.sector.specs.Fit.{shiftedList, modalAt, fitOf};
+ghost use Rattle.sector.specs.Scan.{blankFit, sectorFit, sectorOut};
+use crate::arith::shifted;
+use crate::fits::Fit;
+
+// The fit of a sector of at most 512 bytes; its shifted bytes go into `out`, which has its length. Else a blank, and `out` stays.
+pub fn scan_sector(stored: &[u8], offset: u8, out: &mut [u8]) -> Fit
+    ensures { λ r. ⌜ (r ≡ sectorFit offset (now (stored .entry)) (length (now (out .entry)))) × (now (out .exit) ≡ sectorOut offset (now (stored .entry)) (now (out .entry))) ⌝ }
+{
+    if stored.len() > 512 {
+        return blank_fit();
+    }
+    if out.len() != stored.len() {
+        return blank_fit();
+    }
+    let fit = fit_of(stored, offset);
+    let step = fit.step;
+    write_shifted(stored, offset, step, out);
+    fit
+}
+
+fn blank_fit() -> Fit
+    ensures { λ r. ⌜ r ≡ blankFit ⌝ }
+{
+    Fit {
+        step: 0,
+        peak: 0,
+        runner_up: 0,
+        exact: false,
+    }
+}
+
+fn fit_of(stored: &[u8], offset: u8) -> Fit
+    requires { ⌜ length (now stored) ≤ 512 ⌝ }
+    ensures { λ r. ⌜ r ≡ fitOf offset (now (stored .entry)) ⌝ }
+{
+    let mut best_step: u8 = 0;
+    let mut best: u16 = 0;
+    let mut runner_up: u16 = 0;
+    let mut step: u16 = 0;
+    while step < 256 {
+        let k = step as u8;
+        let peak = modal_count(stored, offset, k);
+        if peak > best {
+            runner_up = best;
+            best = peak;
+            best_step = k;
+        } else if peak > runner_up {
+            runner_up = peak;
+        }
+        step += 1;
+    }
+    Fit {
+        step: best_step,
+        peak: best,
+        runner_up,
+        exact: best as usize == stored.len(),
+    }
+}
+
+// Counted first and compared after: the two loops are faster than one that keeps the greatest count.
+fn modal_count(stored: &[u8], offset: u8, step: u8) -> u16
+    requires { ⌜ length (now stored) ≤ 512 ⌝ }
+    ensures { λ r. ⌜ r ≡ modalAt offset (now (stored .entry)) step ⌝ }
+{
+    largest(histogram(stored, offset, step))
+}
+
+fn histogram(stored: &[u8], offset: u8, step: u8) -> [u16; 256]
+    requires { ⌜ length (now stored) ≤ 512 ⌝ }
+    ensures { λ r. ⌜ Tallies 256 r (shiftedList offset step (now (stored .entry))) ⌝ }
+{
+    let mut hist = [0u16; 256];
+    let mut i: usize = 0;
+    while i < stored.len() {
+        let v = shifted(stored[i], offset, i, step) as usize;
+        hist[v] = hist[v] + 1;
+        i += 1;
+    }
+    hist
+}
+
+fn largest(hist: [u16; 256]) -> u16
+    ensures { λ r. ⌜ r ≡ greatest (λ v. getD hist v 0) 256 ⌝ }
+{
+    let mut most: u16 = 0;
+    let mut v: usize = 0;
+    while v < 256 {
+        if hist[v] > most {
+            most = hist[v];
+        }
+        v += 1;
+    }
+    most
+}
+
+fn write_shifted(stored: &[u8], offset: u8, step: u8, out: &mut [u8])
+    requires { ⌜ length (now out) ≡ length (now stored) ⌝ }
+    ensures { λ r. ⌜ now (out .exit) ≡ shiftedList offset step (now (stored .entry)) ⌝ }
+{
+    let mut i: usize = 0;
+    while i < out.len() {
+        out[i] = shifted(stored[i], offset, i, step);
+        i += 1;
+    }
+}

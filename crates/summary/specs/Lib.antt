@@ -1,0 +1,5 @@
+-- What the contracts of `summary` cite: the scan of a page, the replacement of a sector, and what a list of replacements makes of a page.
+pub mod Page
+pub mod Rescan
+pub mod Replace
+pub mod State

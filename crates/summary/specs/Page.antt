@@ -1,0 +1,58 @@
+-- Document 01, "Summary and replacement": the summary of a page is eight fits and 4,080 shifted bytes. Assumes nothing.
+use Prim.Native.Nat.{ℕ, _+_, _-_, _*_, min}
+use mathlib.Core.List.{List}
+use lib.Dec.{eqb}
+use lib.ListN.{length, take, drop, replicate}
+use Rattle.lists.specs.Cases.{pick}
+use Rattle.lists.specs.Pieces.{each, joined}
+use Rattle.answers.specs.Answers.{isAccepted}
+use Rattle.answers.specs.declared.kinds.Answer.{Answer}
+use Rattle.answers.specs.declared.kinds.Answer.the-variants.{Accepted, WrongPageLength, WrongBufferLength}
+use Rattle.sector.specs.Byte.{offsetOf}
+use Rattle.sector.specs.Fit.{fitOf, sectorOf}
+use Rattle.sector.specs.Scan.{blankFit}
+use Rattle.sector.specs.declared.fits.Fit.{Fit}
+use Rattle.summary.specs.declared.pages.Scan.{Scan}
+
+-- sectors 0 to 6 have 512 bytes, sector 7 has 496: where sector s ends, and its bytes, of a page or of a page's shifted bytes
+abbrev pub endOf : ℕ → ℕ
+endOf s = min (s * 512 + 512) 4080
+
+unfoldable pub part : ℕ → List ℕ → List ℕ
+part s bytes = take (endOf s - s * 512) (drop (s * 512) bytes)
+
+-- the fit and the shifted bytes of sector s of page number p
+unfoldable pub fitAt : ℕ → List ℕ → ℕ → Fit
+fitAt p page s = fitOf (offsetOf p s) (part s page)
+
+unfoldable pub bytesAt : ℕ → List ℕ → ℕ → List ℕ
+bytesAt p page s = sectorOf (offsetOf p s) (part s page)
+
+-- the summary of a page
+abbrev pub fitsOf : ℕ → List ℕ → List Fit
+fitsOf p page = each (fitAt p page) 8
+
+abbrev pub bytesOf : ℕ → List ℕ → List ℕ
+bytesOf p page = joined (bytesAt p page) 8
+
+-- the fits of a refused scan
+abbrev pub blankFits : List Fit
+blankFits = replicate 8 blankFit
+
+-- checks 1 and 2, for a page of n bytes and a buffer of m; where both pass, the answer a
+abbrev pub checked : ℕ → ℕ → Answer → Answer
+checked n m a = pick (eqb n 4096) (pick (eqb m 4080) a (WrongBufferLength m)) (WrongPageLength n)
+
+-- x where an answer accepts, y where it refuses
+abbrev pub ifAccepted : {A : Type 0} → Answer → A → A → A
+ifAccepted a x y = pick (isAccepted a) x y
+
+-- a scan's answer and fits, for a buffer of m bytes
+unfoldable pub scanOf : ℕ → List ℕ → ℕ → Scan
+scanOf p page m =
+    let a : Answer = checked (length page) m Accepted in
+    record { answer = a; fits = ifAccepted a (fitsOf p page) blankFits }
+
+-- and what the buffer holds afterwards: a refusal writes nothing
+unfoldable pub scanned : ℕ → List ℕ → List ℕ → List ℕ
+scanned p page buffer = ifAccepted (checked (length page) (length buffer) Accepted) (bytesOf p page) buffer

@@ -1,0 +1,57 @@
+// The scan of a page.
+ghost use mathlib.Core.Path.{_≡_};
+ghost use lib.ListN.{length};
+ghost use Rattle.summary.specs.Page.{endOf, blankFits, scanOf, scanned};
+use answers::Answer;
+use sector::Fit;
+
+// The answer, and the eight fits; of a refusal, eight blank ones.
+pub struct Scan {
+    pub answer: Answer,
+    pub fits: [Fit; 8],
+}
+
+// The fits of a stored page; its shifted bytes go into `shifted`. An all-zero page is scanned like any other; a refusal writes nothing.
+pub fn scan_page(page: u64, stored: &[u8], shifted: &mut [u8]) -> Scan
+    ensures { λ r. ⌜ (r ≡ scanOf page (now (stored .entry)) (length (now (shifted .entry)))) × (now (shifted .exit) ≡ scanned page (now (stored .entry)) (now (shifted .entry))) ⌝ }
+{
+    let blank = blank_fits();
+    let n = stored.len();
+    if n != 4096 {
+        return Scan {
+            answer: Answer::WrongPageLength(n),
+            fits: blank,
+        };
+    }
+    let m = shifted.len();
+    if m != 4080 {
+        return Scan {
+            answer: Answer::WrongBufferLength(m),
+            fits: blank,
+        };
+    }
+    let fits = crate::rescan::rescan(page, 0, 8, stored, shifted, blank);
+    Scan {
+        answer: Answer::Accepted,
+        fits,
+    }
+}
+
+// Where sector `s` ends: the last one before the trailer.
+pub fn sector_end(s: usize) -> usize
+    ensures { λ r. ⌜ r ≡ endOf s ⌝ }
+{
+    if s < 7 { s * 512 + 512 } else { 4080 }
+}
+
+fn blank_fits() -> [Fit; 8]
+    ensures { λ r. ⌜ r ≡ blankFits ⌝ }
+{
+    let blank = Fit {
+        step: 0,
+        peak: 0,
+        runner_up: 0,
+        exact: false,
+    };
+    [blank; 8]
+}
