@@ -1,0 +1,11 @@
+-- Laws of the definitions by subject, then what the definitions mean.
+pub mod Words
+pub mod Scanned
+pub mod Sweeps
+pub mod Limits
+pub mod Runs
+pub mod RowCounts
+pub mod Fields
+pub mod Pages
+pub mod Best
+pub mod Starts

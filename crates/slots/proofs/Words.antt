@@ -1,0 +1,82 @@
+-- Laws of the pairs of a list of bytes, below a limit, and of slot values. Assumes nothing.
+use Prim.Native.Nat.{ℕ, suc, _+_, _-_, _*_, _≤_, _<_}
+use mathlib.Core.Path.{_≡_, refl, sym, ap, _∙_}
+use mathlib.Core.List.{List, [], _∷_}
+use mathlib.Core.Bool.{Bool, true, false, _&&_, false≢true}
+use native.Mathlib.Omega.{arith}
+use native.Mathlib.Numerals.{add-one, add-two}
+use native.Mathlib.Nat.{le-of-suc-le-suc, not-suc-le-zero}
+use lib.ListN.{length, getD, take, drop, length-take, length-drop}
+use lib.Seq.{drop-cons, getD-take, length-take-le}
+use lib.Dec.{ltb, leb}
+use borrow.Author.Tests.{leb-true, ltb-true}
+use Rattle.lists.specs.Bytes.{plainOf, pairAt}
+use Rattle.lists.proofs.Plain.{plain-length}
+use Rattle.slots.specs.Slots.{isOffset, words, wordsFrom}
+
+module _ (lim : ℕ) (p : List ℕ) (at : ℕ) (le : lim ≤ length p) where
+  -- one pair at a time
+  pub words-step : at + 1 < lim → wordsFrom lim p at ≡ pairAt p at ∷ wordsFrom lim p (at + 2)
+  unfolding words wordsFrom
+  words-step h =
+      let n : length (take lim p) ≡ lim = length-take-le lim p le in
+      let h0 : at < length (take lim p) = omega arith in
+      let h1 : suc at < length (take lim p) = omega arith in
+      let a0 : getD (take lim p) at 0 ≡ getD p at 0 = getD-take lim p at 0 (omega arith) in
+      let a1 : getD (take lim p) (suc at) 0 ≡ getD p (suc at) 0 = getD-take lim p (suc at) 0 (omega arith) in
+      rw (drop-cons (take lim p) at 0 h0, drop-cons (take lim p) (suc at) 0 h1, a0, a1, add-one, add-two) refl
+
+  pub words-here : (w : ℕ) → at + 1 < lim → w ≡ pairAt p at → wordsFrom lim p at ≡ w ∷ wordsFrom lim p (at + 2)
+  words-here w h e = words-step h ∙ ap (λ (k : ℕ). k ∷ wordsFrom lim p (at + 2)) (sym e)
+
+short : (l : List ℕ) → length l ≤ 1 → words l ≡ []
+unfolding words
+short [] h = refl
+short (a ∷ []) h = refl
+short (a ∷ b ∷ l) h = absurd (not-suc-le-zero (le-of-suc-le-suc h))
+
+words-half : (l : List ℕ) → 2 * length (words l) ≤ length l
+unfolding words
+words-half [] = omega arith
+words-half (a ∷ []) = omega arith
+words-half (a ∷ b ∷ l) = let h : 2 * length (words l) ≤ length l = words-half l in omega arith
+
+module _ (lim : ℕ) (p : List ℕ) (at : ℕ) where
+  length-below : length (drop at (take lim p)) ≤ lim - at
+  length-below = simp (length-drop, length-take) (omega arith)
+
+  pub words-end : lim ≤ at + 1 → wordsFrom lim p at ≡ []
+  unfolding wordsFrom
+  words-end h = short (drop at (take lim p)) (omega (arith, length-below))
+
+  pub words-past : length p ≤ at + 1 → wordsFrom lim p at ≡ []
+  unfolding wordsFrom
+  words-past h = short (drop at (take lim p)) (let e : length (drop at (take lim p)) ≤ length p - at = simp (length-drop, length-take) (omega arith) in omega arith)
+
+  -- two bytes to a pair
+  pub words-fit : 2 * length (wordsFrom lim p at) ≤ lim - at
+  unfolding wordsFrom
+  words-fit = omega (arith, length-below, words-half (drop at (take lim p)))
+
+module _ (w : ℕ) (o : isOffset w ≡ true) where
+  both : (leb 0x20 w ≡ true) × (ltb w 0xFF0 ≡ true)
+  unfolding isOffset
+  both = go (leb 0x20 w) (ltb w 0xFF0) refl refl o
+    where
+      go : (a b : Bool) → leb 0x20 w ≡ a → ltb w 0xFF0 ≡ b → (a && b) ≡ true → (leb 0x20 w ≡ true) × (ltb w 0xFF0 ≡ true)
+      go true true p q e = (p, q)
+      go true false p q e = absurd (false≢true e)
+      go false b p q e = absurd (false≢true e)
+
+  pub offset-low : 0x20 ≤ w
+  offset-low = leb-true 0x20 w (both .0)
+
+  pub offset-high : w < 0xFF0
+  offset-high = ltb-true w 0xFF0 (both .1)
+
+  pub offset-pos : w ≡ 0 → ⊥
+  offset-pos z = omega (arith, offset-low)
+
+-- a limit within the bytes is within the plain ones
+pub fits : (lim bv : ℕ) (xs : List ℕ) → lim ≤ length xs → lim ≤ length (plainOf bv xs)
+fits lim bv xs h = rw plain-length h

@@ -1,0 +1,80 @@
+-- `has_count` meets its contract: after i turns it has seen the pairs at 0, .., i - 1.
+use borrow.Author.Needs.{needs}
+use mathlib.Core.Path.{_≡_, sym, ap, _∙_}
+use native.Mathlib.Omega.{arith}
+use Prim.Native.Nat.{_+_, _-_, _≤_}
+use Rattle.lists.specs.Bytes.{plainOf}
+use Rattle.slots.specs.Sweep.{hasPair}
+use Rattle.lists.proofs.Plain.{plain-at}
+use Rattle.slots.proofs.RowCounts.{pair-none, pair-more}
+use Rattle.slots.proofs.counts.has_count.Statement.{statement}
+use Rattle.slots.proofs.counts.has_count.Tie as tie
+
+abbrev Inv-loop : tie.InvT-loop
+Inv-loop bytes bv limit n seen₀ i₀ seen i = (i ≤ limit) × (seen ≡ hasPair n 0 (plainOf bv bytes) i)
+
+abbrev μ-loop : tie.MeasureT-loop
+μ-loop bytes bv limit n seen₀ i₀ seen i = limit - i
+
+loop-holds : tie.Need-loop-holds Inv-loop μ-loop
+loop-holds c = (search needs, pair-none _ _ _)
+
+shared-slice-read-plain-byte : tie.Need-shared-slice-read-plain-byte Inv-loop μ-loop
+shared-slice-read-plain-byte c = search needs
+
+plain-byte-requires : tie.Need-plain-byte-requires Inv-loop μ-loop
+plain-byte-requires c κs = search needs
+
+add-plain-byte : tie.Need-add-plain-byte Inv-loop μ-loop
+add-plain-byte c = search needs
+
+shared-slice-read-plain-byte-2 : tie.Need-shared-slice-read-plain-byte-2 Inv-loop μ-loop
+shared-slice-read-plain-byte-2 c = search needs
+
+plain-byte-requires-2 : tie.Need-plain-byte-requires-2 Inv-loop μ-loop
+plain-byte-requires-2 c κs = search needs
+
+is-count-requires : tie.Need-is-count-requires Inv-loop μ-loop
+is-count-requires c κs = search needs
+
+add-i : tie.Need-add-i Inv-loop μ-loop
+add-i c = search needs
+
+loop-less : tie.Need-loop-less Inv-loop μ-loop
+loop-less c = search needs
+
+loop-again : tie.Need-loop-again Inv-loop μ-loop
+loop-again c =
+    let y = c .before in
+    let x = y .before .before in
+    let l = x .before .before .before in
+    let a = l .before .before .args in (
+      search needs,
+      pair-more (a .n) 0 (plainOf (a .bv) (a .bytes .now)) (l .loop .i) (x .plain-byte .result) (y .plain-byte2 .result) (c .is-count .result) (l .loop .seen) (l .loop .inv .1)
+          (x .plain-byte .ensures ∙ sym (plain-at (a .bv) (a .bytes .now) (l .loop .i) (omega arith)))
+          (y .plain-byte2 .ensures ∙ sym (plain-at (a .bv) (a .bytes .now) (l .loop .i + 1) (omega arith))) (c .is-count .ensures),
+    )
+
+returns : tie.Need-returns Inv-loop μ-loop
+returns c =
+    let l = c .before in
+    let z : l .loop .i ≡ l .before .before .args .limit = omega arith in
+    l .loop .inv .1 ∙ ap (hasPair _ 0 _) z
+
+pub has-count-spec : {M : Type 1} → statement M
+has-count-spec =
+    tie.close
+    (tie.spec
+    Inv-loop
+    μ-loop
+    loop-holds
+    shared-slice-read-plain-byte
+    plain-byte-requires
+    add-plain-byte
+    shared-slice-read-plain-byte-2
+    plain-byte-requires-2
+    is-count-requires
+    add-i
+    loop-less
+    loop-again
+    returns)

@@ -1,0 +1,34 @@
+-- `page_row_count_matches` meets its contract: a plain page is the case bv = 0.
+use mathlib.Core.Path.{_≡_, refl}
+use native.Mathlib.Omega.{arith}
+use Rattle.lists.specs.Bytes.{plainOf}
+use Rattle.slots.proofs.RowCounts.{page-short, page-tested}
+use Rattle.slots.proofs.Pages.{plain-zero}
+use borrow.Author.Needs.{needs}
+use Rattle.slots.proofs.counts.page_row_count_matches.Statement.{statement}
+use Rattle.slots.proofs.counts.page_row_count_matches.Tie as tie
+
+returns : tie.Need-returns
+returns c = page-short _ _ _ (c .if1 .taken)
+
+shared-slice-read-trailer-row-count-matches : tie.Need-shared-slice-read-trailer-row-count-matches
+shared-slice-read-trailer-row-count-matches c = search needs
+
+trailer-row-count-matches-requires : tie.Need-trailer-row-count-matches-requires
+trailer-row-count-matches-requires c κs = search needs
+
+returns-2 : tie.Need-returns-2
+returns-2 c =
+    let k = c .before in
+    let a = k .before .before .before .args in
+    let z : plainOf 0 (a .plain .now) ≡ a .plain .now = plain-zero (a .plain .now) (λ i h. omega (arith, k .shared-slice-known2 .given i)) in
+    page-tested 0x300 (a .plain .now) (a .t) _ (c .trailer-row-count-matches .result) (k .before .if1 .left) refl (rw z at (c .trailer-row-count-matches .ensures))
+
+pub page-row-count-matches-spec : {M : Type 1} → statement M
+page-row-count-matches-spec =
+    tie.close
+    (tie.spec
+    returns
+    shared-slice-read-trailer-row-count-matches
+    trailer-row-count-matches-requires
+    returns-2)

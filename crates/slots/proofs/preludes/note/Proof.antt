@@ -1,0 +1,66 @@
+-- `note` meets its contract, a law of `noted` for each arm.
+use mathlib.Core.Path.{sym, _∙_}
+use Rattle.slots.proofs.Fields.{noted-same, noted-missing, noted-cut, noted-second, noted-not, noted-several}
+use borrow.Author.Needs.{needs}
+use Rattle.slots.proofs.preludes.note.Statement.{statement}
+use Rattle.slots.proofs.preludes.note.Tie as tie
+
+enum-told : tie.Need-enum-told
+enum-told c = search needs
+
+note-first-requires : tie.Need-note-first-requires
+note-first-requires c κs = search needs
+
+enum-known-seen : tie.Need-enum-known-seen
+enum-known-seen c = search needs
+
+note-first-requires-2 : tie.Need-note-first-requires-2
+note-first-requires-2 c κs = search needs
+
+enum-known-seen-2 : tie.Need-enum-known-seen-2
+enum-known-seen-2 c = search needs
+
+returns : tie.Need-returns
+returns c = noted-same _ _ _ _ _ (c .before .before .seen2 .given .1) (c .if1 .taken)
+
+is-whole-requires : tie.Need-is-whole-requires
+is-whole-requires c κs = search needs
+
+enum-told-2 : tie.Need-enum-told-2
+enum-told-2 c = search needs
+
+returns-2 : tie.Need-returns-2
+returns-2 c = noted-missing _ _ _ _ _ (c .before .enum-told .given .1) (c .note-first .ensures)
+
+returns-3 : tie.Need-returns-3
+returns-3 c =
+    let s = c .before .before in
+    let a = s .before .before .args in
+    noted-cut (a .n) (a .start) (a .run) (a .seen) (c .note-first2 .result) (s .seen .given .0 .0) (s .seen .given .0 .1 .0) (s .seen .given .1) (c .note-first2 .ensures)
+
+returns-4 : tie.Need-returns-4
+returns-4 c = noted-second _ _ _ _ _ (c .before .before .before .before .seen2 .given .1) (sym (c .before .is-whole .ensures) ∙ c .if2 .taken) (c .before .before .if1 .left)
+
+returns-5 : tie.Need-returns-5
+returns-5 c = noted-not _ _ _ _ _ (c .before .before .before .before .seen2 .given .1) (sym (c .before .is-whole .ensures) ∙ c .if2 .left)
+
+returns-6 : tie.Need-returns-6
+returns-6 c = noted-several _ _ _ _ (c .enum-told2 .given .1)
+
+pub note-spec : {M : Type 1} → statement M
+note-spec =
+    tie.close
+    (tie.spec
+    enum-told
+    note-first-requires
+    enum-known-seen
+    note-first-requires-2
+    enum-known-seen-2
+    returns
+    is-whole-requires
+    enum-told-2
+    returns-2
+    returns-3
+    returns-4
+    returns-5
+    returns-6)

@@ -1,0 +1,141 @@
+-- `prelude_candidates` meets its contract: field by field and gap by gap; left early, no later field changes the answer.
+use borrow.Author.Needs.{needs}
+use mathlib.Core.Path.{_≡_, sym, ap, _∙_}
+use native.Mathlib.Omega.{arith}
+use Prim.Native.Nat.{ℕ, _-_, _≤_, min}
+use Rattle.lists.specs.Bytes.{plainOf}
+use Rattle.slots.specs.Slots.{dataEnd, preludeOf}
+use Rattle.slots.proofs.Fields.{gapsNoted, data-plain, prelude-none, gaps-none, gap-more, field-other, field-done, left-early, fields-all}
+use Rattle.slots.proofs.preludes.prelude_candidates.Statement.{statement}
+use Rattle.slots.proofs.preludes.prelude_candidates.Tie as tie
+
+abbrev Inv-loop : tie.InvT-loop
+Inv-loop bytes bv limit n count fields seen₀ field k₀ seen k = (k ≤ 2) × (seen ≡ gapsNoted (plainOf bv bytes) count field k (preludeOf field (plainOf bv bytes) count))
+
+abbrev μ-loop : tie.MeasureT-loop
+μ-loop bytes bv limit n count fields seen₀ field k₀ seen k = 2 - k
+
+abbrev Inv-fields : tie.InvT-fields
+Inv-fields bytes bv limit n count fields seen₀ field₀ seen field = (field ≤ fields) × (seen ≡ preludeOf field (plainOf bv bytes) count)
+
+abbrev μ-fields : tie.MeasureT-fields
+μ-fields bytes bv limit n count fields seen₀ field₀ seen field = fields - field
+
+wide-requires : tie.Need-wide-requires Inv-loop μ-loop Inv-fields μ-fields
+wide-requires c κs = search needs
+
+field-end-requires : tie.Need-field-end-requires Inv-loop μ-loop Inv-fields μ-fields
+field-end-requires c κs = search needs
+
+fields-holds : tie.Need-fields-holds Inv-loop μ-loop Inv-fields μ-fields
+fields-holds c = (search needs, prelude-none _ _)
+
+pair-at-requires : tie.Need-pair-at-requires Inv-loop μ-loop Inv-fields μ-fields
+pair-at-requires c κs = search needs
+
+add-field : tie.Need-add-field Inv-loop μ-loop Inv-fields μ-fields
+add-field c = search needs
+
+fields-less : tie.Need-fields-less Inv-loop μ-loop Inv-fields μ-fields
+fields-less c = search needs
+
+fields-again : tie.Need-fields-again Inv-loop μ-loop Inv-fields μ-fields
+fields-again c =
+    let q = c .before in
+    let f = q .before .before in
+    (search needs, field-other _ _ _ _ (q .pair-at .ensures .0) _ (f .fields .inv .1) (c .if1 .taken))
+
+loop-holds : tie.Need-loop-holds Inv-loop μ-loop Inv-fields μ-fields
+loop-holds c = (search needs, gaps-none _ _ _ _ (c .before .before .before .fields .inv .1))
+
+mul-note-gap : tie.Need-mul-note-gap Inv-loop μ-loop Inv-fields μ-fields
+mul-note-gap c = search needs
+
+add-note-gap : tie.Need-add-note-gap Inv-loop μ-loop Inv-fields μ-fields
+add-note-gap c = search needs
+
+note-gap-requires : tie.Need-note-gap-requires Inv-loop μ-loop Inv-fields μ-fields
+note-gap-requires c κs = search needs
+
+is-several-requires : tie.Need-is-several-requires Inv-loop μ-loop Inv-fields μ-fields
+is-several-requires c κs = search needs
+
+add-k : tie.Need-add-k Inv-loop μ-loop Inv-fields μ-fields
+add-k c = search needs
+
+loop-less : tie.Need-loop-less Inv-loop μ-loop Inv-fields μ-fields
+loop-less c = search needs
+
+loop-again : tie.Need-loop-again Inv-loop μ-loop Inv-fields μ-fields
+loop-again c =
+    let g = c .before .before in
+    let l = g .before .before in
+    let q = l .before .before in
+    (search needs, gap-more _ _ _ _ (q .pair-at .ensures .0) (l .before .if1 .left) _ _ _ (l .loop .inv .1) (g .note-gap .ensures))
+
+add-field-2 : tie.Need-add-field-2 Inv-loop μ-loop Inv-fields μ-fields
+add-field-2 c = search needs
+
+fields-less-2 : tie.Need-fields-less-2 Inv-loop μ-loop Inv-fields μ-fields
+fields-less-2 c = search needs
+
+fields-again-2 : tie.Need-fields-again-2 Inv-loop μ-loop Inv-fields μ-fields
+fields-again-2 c =
+    let l = c .before in
+    let q = l .before .before in
+    (search needs, field-done _ _ _ _ (q .pair-at .ensures .0) (l .before .if1 .left) _ _ (l .loop .inv .0) (c .loop-test .left) (l .loop .inv .1))
+
+returns : tie.Need-returns Inv-loop μ-loop Inv-fields μ-fields
+returns c =
+    let f = c .before in
+    let e = f .before in
+    let w = e .before in
+    let a = w .before .before .args in
+    let p = plainOf (a .bv) (a .bytes .now) in
+    let z : f .fields .field ≡ e .field-end .result = omega arith in
+    let r : f .fields .seen ≡ preludeOf (e .field-end .result) p (w .wide .result) = f .fields .inv .1 ∙ ap (λ (k : ℕ). preludeOf k p (w .wide .result)) z in
+    let m : e .field-end .result ≡ min (a .limit) (dataEnd p - 5) = omega (arith, e .field-end .ensures, data-plain (a .bv) (a .bytes .now)) in
+    fields-all p (w .wide .result) (a .limit) (e .field-end .result) (f .fields .seen) m r ∙ ap (preludeOf (a .limit) p) (w .wide .ensures .0)
+
+returns-2 : tie.Need-returns-2 Inv-loop μ-loop Inv-fields μ-fields
+returns-2 c =
+    let g = c .before .before in
+    let l = g .before .before in
+    let q = l .before .before in
+    let f = q .before .before in
+    let e = f .before in
+    let w = e .before in
+    let a = w .before .before .args in
+    let p = plainOf (a .bv) (a .bytes .now) in
+    let r : g .note-gap .result ≡ preludeOf (e .field-end .result) p (w .wide .result) = left-early p (w .wide .result) (f .fields .field) (q .pair-at .result) (q .pair-at .ensures .0) (l .before .if1 .left) (e .field-end .result) (l .loop .k) (l .loop .seen) (g .note-gap .result) (q .before .fields-test .taken) (g .before .loop-test .taken) (l .loop .inv .1) (g .note-gap .ensures) (sym (c .before .is-several .ensures) ∙ c .if2 .taken) in
+    let m : e .field-end .result ≡ min (a .limit) (dataEnd p - 5) = omega (arith, e .field-end .ensures, data-plain (a .bv) (a .bytes .now)) in
+    fields-all p (w .wide .result) (a .limit) (e .field-end .result) (g .note-gap .result) m r ∙ ap (preludeOf (a .limit) p) (w .wide .ensures .0)
+
+pub prelude-candidates-spec : {M : Type 1} → statement M
+prelude-candidates-spec =
+    tie.close
+    (tie.spec
+    Inv-loop
+    μ-loop
+    Inv-fields
+    μ-fields
+    wide-requires
+    field-end-requires
+    fields-holds
+    pair-at-requires
+    add-field
+    fields-less
+    fields-again
+    loop-holds
+    mul-note-gap
+    add-note-gap
+    note-gap-requires
+    is-several-requires
+    add-k
+    loop-less
+    loop-again
+    add-field-2
+    fields-less-2
+    fields-again-2
+    returns
+    returns-2)

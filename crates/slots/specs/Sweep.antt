@@ -1,0 +1,41 @@
+-- What the scan keeps on its one pass from the limit down to 0. No part of the format: the scan's promise is `scannedDirectory`. Assumes nothing.
+use Prim.Native.Nat.{ℕ, zero, suc, _+_, _*_}
+use mathlib.Core.List.{List, [], _∷_}
+use mathlib.Core.Bool.{Bool, true, false, _&&_, _||_}
+use lib.Dec.{ltb, leb, eqb}
+use Rattle.lists.specs.Cases.{pick}
+use Rattle.lists.specs.Bytes.{byteAt}
+use Rattle.slots.specs.Slots.{isOffset}
+use Rattle.slots.specs.declared.scans.Scan.{Scan}
+use Rattle.slots.specs.declared.scans.Tail.{Tail}
+
+-- no run: its value is above every offset, so that nothing joins it
+abbrev pub noTail : Tail
+noTail = record { value = 0xFF0; gap = 0; slots = 0; live = 0 }
+
+-- the run at the first pair that is not zero: its value, the zero pairs before it, its slots and live slots.
+-- By whether w is zero, is an offset, and is above the offset that comes next
+abbrev pub joinedBy : Bool → Bool → Bool → ℕ → Tail → Tail
+joinedBy true b c w t = record { value = t .value; gap = t .gap + 1; slots = t .slots; live = t .live }
+joinedBy false false c w t = noTail
+joinedBy false true false w t = record { value = w; gap = 0; slots = 1; live = 1 }
+joinedBy false true true w t = record { value = w; gap = 0; slots = t .gap + t .slots + 1; live = t .live + 1 }
+
+unfoldable pub joined : ℕ → Tail → Tail
+joined w t = joinedBy (eqb w 0) (isOffset w) (ltb (t .value) w) w t
+
+unfoldable pub tailOf : List ℕ → Tail
+tailOf [] = noTail
+tailOf (w ∷ ws) = joined w (tailOf ws)
+
+-- the scan from s, of the tail at s
+abbrev pub emptyScan : ℕ → Scan
+emptyScan s = record { start = s; slots = 0; live = 0 }
+
+unfoldable pub scanOf : ℕ → Tail → Scan
+scanOf s t = pick (leb 1 (t .live) && leb (t .gap) 1) (record { start = s + 2 * t .gap; slots = t .slots; live = t .live }) (emptyScan s)
+
+-- a and then b at one of the positions 0, .., n - 1: what the row-count test looks for before it scans
+unfoldable pub hasPair : ℕ → ℕ → List ℕ → ℕ → Bool
+hasPair a b p zero = false
+hasPair a b p (suc i) = hasPair a b p i || (eqb (byteAt p i) a && eqb (byteAt p (i + 1)) b)
