@@ -1,0 +1,4 @@
+-- Laws of the groups of candidates, of the rules, and of the choice.
+pub mod Tables
+pub mod Members
+pub mod Deciding

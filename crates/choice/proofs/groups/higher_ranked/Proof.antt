@@ -1,0 +1,18 @@
+-- The one that ranks above the other.
+use mathlib.Core.Path.{sym, _∙_}
+use Rattle.choice.proofs.Members.{higher-new, higher-old}
+use borrow.Author.Needs.{needs}
+use Rattle.choice.proofs.groups.higher_ranked.Statement.{statement}
+use Rattle.choice.proofs.groups.higher_ranked.Tie as tie
+
+ranks-above-requires : tie.Need-ranks-above-requires
+ranks-above-requires c κs = search needs
+
+returns : tie.Need-returns
+returns c = sym (higher-new _ _ (sym (c .before .ranks-above .ensures) ∙ c .if1 .taken))
+
+returns-2 : tie.Need-returns-2
+returns-2 c = sym (higher-old _ _ (sym (c .before .ranks-above .ensures) ∙ c .if1 .left))
+
+pub higher-ranked-spec : {M : Type 1} → statement M
+higher-ranked-spec = tie.close (tie.spec ranks-above-requires returns returns-2)

@@ -1,0 +1,4 @@
+-- The choice of bv.
+pub mod Groups
+pub mod Rules
+pub mod Supplied
