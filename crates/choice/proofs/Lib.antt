@@ -2,3 +2,4 @@
 pub mod Tables
 pub mod Members
 pub mod Deciding
+pub mod Chosen

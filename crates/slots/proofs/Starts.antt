@@ -27,7 +27,7 @@ pub record Fits (lim : ℕ) (p : List ℕ) (n start : ℕ) : Type 0 where
   pub fills : whole n (runOf (declaredSlots p n start)) ≡ true
 
 -- what the search says of a set of starts: none of them, just the one, or two that differ
-pub Tells : (ℕ → Type 0) → Prelude → Type 0
+unfoldable pub Tells : (ℕ → Type 0) → Prelude → Type 0
 Tells P Missing = (s : ℕ) → P s → ⊥
 Tells P (Truncated found stop) = (s : ℕ) → P s → ⊥
 Tells P (One a) = P a × ((s : ℕ) → P s → s ≡ a)

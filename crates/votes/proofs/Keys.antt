@@ -11,7 +11,7 @@ use borrow.Author.Tests.{lt-ltb, le-ltb, le-leb, lt-leb, eq-eqb, ne-eqb}
 use lib.Dec.{eqb, ltb, leb}
 use Rattle.lists.specs.Cases.{pick, flag}
 use Rattle.lists.specs.Bytes.{byteAt}
-use Rattle.lists.specs.Counts.{howMany, greatest}
+use Rattle.lists.specs.Counts.{howMany, greatest, least}
 use Rattle.lists.proofs.Picks.{flag-le}
 use Rattle.lists.proofs.Many.{many-none, many-ext}
 use Rattle.lists.proofs.Greatest.{greatest-none, greatest-more, greatest-above, greatest-below}
@@ -151,17 +151,21 @@ module _ (counts : List ℕ) where
   many-beat v h = many-ext (λ w. beats counts w v) (λ w. ltb (keyAt counts v) (keyAt counts w)) 256 (λ w k. beats-key w v k h)
 
   -- the greatest key is the top's
-  pub top-key : (a : ℕ) → a ≡ greatest (keyAt counts) 256 → 255 - a % 256 ≡ topOf counts
+  pub top-met : (P : Type 0) → ((k : ℕ) → k < 256 → keyAt counts k ≡ greatest (keyAt counts) 256 → topOf counts ≡ k → P) → P
   unfolding topOf
-  top-key a e = greatest-met (keyAt counts) (255 - a % 256 ≡ topOf counts) 256 (omega arith) met
+  top-met P f = greatest-met (keyAt counts) P 256 (omega arith) (λ k h q. f k h q (here k h q))
     where
-      met : (k : ℕ) → k < 256 → keyAt counts k ≡ greatest (keyAt counts) 256 → 255 - a % 256 ≡ topOf counts
-      met k h q =
+      here :
+          (k : ℕ)
+          → k < 256
+          → keyAt counts k ≡ greatest (keyAt counts) 256
+          → least (λ v. eqb (byteAt counts v) (greatest (byteAt counts) 256)) 256 ≡ k
+      here k h q =
           let most : byteAt counts k ≡ greatest (byteAt counts) 256 =
           le-antisymm (greatest-above (byteAt counts) 256 k h)
           (greatest-below (byteAt counts) 256 (byteAt counts k) (λ j l. omega (arith, greatest-above (keyAt counts) 256 j l))) in
-          let here : 255 - a % 256 ≡ k = omega arith in
-          here
-          ∙ sym
-          (least-is (λ v. eqb (byteAt counts v) (greatest (byteAt counts) 256)) 256 k h (eq-eqb (byteAt counts k) (greatest (byteAt counts) 256) most)
-          (λ j l. ne-eqb (byteAt counts j) (greatest (byteAt counts) 256) (λ z. omega (arith, greatest-above (keyAt counts) 256 j (omega arith)))))
+          least-is (λ v. eqb (byteAt counts v) (greatest (byteAt counts) 256)) 256 k h (eq-eqb (byteAt counts k) (greatest (byteAt counts) 256) most)
+          (λ j l. ne-eqb (byteAt counts j) (greatest (byteAt counts) 256) (λ z. omega (arith, greatest-above (keyAt counts) 256 j (omega arith))))
+
+  pub top-key : (a : ℕ) → a ≡ greatest (keyAt counts) 256 → 255 - a % 256 ≡ topOf counts
+  top-key a e = top-met (255 - a % 256 ≡ topOf counts) (λ k h q t. omega (arith, t))
