@@ -1,0 +1,71 @@
+use borrow.Author.Needs.{needs}
+use Prim.Native.Nat.{ℕ, _+_, _-_, _≤_}
+use mathlib.Core.Path.{_≡_, ap, _∙_}
+use native.Mathlib.Omega.{arith}
+use mathlib.Core.List.{[], _∷_, _++_}
+use denote.Ref.{now}
+use lib.ListN.{length, take, length-set}
+use Rattle.lists.specs.Bytes.{plainOf}
+use Rattle.decode.proofs.Writes.{write-more, write-all, plain-none, plain-more, plain-all}
+use Rattle.decode.proofs.plaintext.unshift.Statement.{statement}
+use Rattle.decode.proofs.plaintext.unshift.Tie as tie
+
+abbrev Inv-loop : tie.InvT-loop
+Inv-loop shifted bv out₀ i₀ out i = (i ≤ length shifted) × (length out ≡ length shifted) × (take i out ≡ plainOf bv (take i shifted))
+
+abbrev μ-loop : tie.MeasureT-loop
+μ-loop shifted bv out₀ i₀ out i = length shifted - i
+
+loop-holds : tie.Need-loop-holds Inv-loop μ-loop
+loop-holds c = ((search needs), (search needs), plain-none (c .before .before .args .bv) (now (c .before .before .args .shifted)))
+
+shared-slice-read-plain-byte : tie.Need-shared-slice-read-plain-byte Inv-loop μ-loop
+shared-slice-read-plain-byte c = search needs
+
+plain-byte-requires : tie.Need-plain-byte-requires Inv-loop μ-loop
+plain-byte-requires c κs = search needs
+
+slice-write-out : tie.Need-slice-write-out Inv-loop μ-loop
+slice-write-out c = search needs
+
+add-i : tie.Need-add-i Inv-loop μ-loop
+add-i c = search needs
+
+loop-less : tie.Need-loop-less Inv-loop μ-loop
+loop-less c = search needs
+
+loop-again : tie.Need-loop-again Inv-loop μ-loop
+loop-again c = let a = c .before .before .before .before .before .before .args in
+    let l = c .before .before .before .loop in
+    let bytes = now (a .shifted) in (
+      omega arith,
+      length-set (l .out) (l .i) (c .plain-byte .result) ∙ l .inv .1,
+      write-more (l .out) (plainOf (a .bv) (take (l .i) bytes)) (l .i) (c .plain-byte .result) (omega arith) (l .inv .2)
+          ∙ ap (λ (y : ℕ). plainOf (a .bv) (take (l .i) bytes) ++ (y ∷ [])) (c .plain-byte .ensures)
+          ∙ plain-more (a .bv) bytes (l .i) (omega arith),
+    )
+
+same-length : tie.Need-same-length Inv-loop μ-loop
+same-length c = search needs
+
+returns : tie.Need-returns Inv-loop μ-loop
+returns c = let a = c .before .before .before .before .args in
+    let l = c .before .loop in
+    let bytes = now (a .shifted) in
+    write-all (l .out) (plainOf (a .bv) (take (l .i) bytes)) (l .i) (omega arith) (l .inv .2) ∙ plain-all (a .bv) bytes (l .i) (omega arith)
+
+pub unshift-spec : {M : Type 1} → statement M
+unshift-spec =
+    tie.close
+    (tie.spec
+    Inv-loop
+    μ-loop
+    loop-holds
+    shared-slice-read-plain-byte
+    plain-byte-requires
+    slice-write-out
+    add-i
+    loop-less
+    loop-again
+    same-length
+    returns)

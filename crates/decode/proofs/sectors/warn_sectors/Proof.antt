@@ -1,0 +1,78 @@
+use borrow.Author.Needs.{needs}
+use Prim.Native.Nat.{_-_, _≤_}
+use mathlib.Core.Path.{_≡_, sym, ap, _∙_}
+use native.Mathlib.Omega.{arith}
+use mathlib.Core.Logic.{⊎-elim}
+use borrow.Author.Tests.{not-true, not-false}
+use Rattle.answers.specs.Warns.{withWarning}
+use Rattle.answers.specs.declared.notices.Warnings.{Warnings}
+use Rattle.answers.specs.declared.notices.WarningKind.the-variants as warning
+use Rattle.decode.specs.Sectors.{entry, sectorWarnings}
+use Rattle.decode.proofs.Doubt.{warned-none, warned-sure, warned-weak}
+use Rattle.decode.proofs.sectors.warn_sectors.Statement.{statement}
+use Rattle.decode.proofs.sectors.warn_sectors.Tie as tie
+
+abbrev Inv-loop : tie.InvT-loop
+Inv-loop page fits all₀ s₀ all s = (s ≤ 8) × (all ≡ sectorWarnings page fits all₀ s)
+
+abbrev μ-loop : tie.MeasureT-loop
+μ-loop page fits all₀ s₀ all s = 8 - s
+
+loop-holds : tie.Need-loop-holds Inv-loop μ-loop
+loop-holds c = ((search needs), warned-none _ _ _)
+
+mul-f : tie.Need-mul-f Inv-loop μ-loop
+mul-f c = search needs
+
+array-copy-out-f : tie.Need-array-copy-out-f Inv-loop μ-loop
+array-copy-out-f c = search needs
+
+confident-requires : tie.Need-confident-requires Inv-loop μ-loop
+confident-requires c κs = search needs
+
+cast-t15 : tie.Need-cast-t15 Inv-loop μ-loop
+cast-t15 c = search needs
+
+with-requires : tie.Need-with-requires Inv-loop μ-loop
+with-requires c κs = search needs
+
+add-s : tie.Need-add-s Inv-loop μ-loop
+add-s c = search needs
+
+loop-less : tie.Need-loop-less Inv-loop μ-loop
+loop-less c = search needs
+
+loop-again : tie.Need-loop-again Inv-loop μ-loop
+loop-again c = let l = c .before .before .before .before .loop in
+    let t = c .before .confident .ensures in
+    let a = c .before .before .before .before .before .args in (
+      (search needs),
+      ⊎-elim
+          (λ w.
+          w .2
+          ∙ w .1 .ensures
+          ∙ ap (λ (x : Warnings). withWarning x (a .page) (warning.LowConfidenceSector (l .s) (entry (a .t2) (l .s) .peak) (entry (a .t2) (l .s) .«runner_up»))) (l .inv .1)
+          ∙ sym (warned-weak _ _ _ (l .s) (sym t ∙ not-true _ (w .0 .taken))))
+          (λ w. w .1 ∙ l .inv .1 ∙ sym (warned-sure _ _ _ (l .s) (sym t ∙ not-false _ (w .0 .left))))
+          (c .if1 .came),
+    )
+
+returns : tie.Need-returns Inv-loop μ-loop
+returns c = let l = c .before .loop in l .inv .1 ∙ ap (sectorWarnings _ _ _) (omega arith)
+
+pub warn-sectors-spec : {M : Type 1} → statement M
+warn-sectors-spec =
+    tie.close
+    (tie.spec
+    Inv-loop
+    μ-loop
+    loop-holds
+    mul-f
+    array-copy-out-f
+    confident-requires
+    cast-t15
+    with-requires
+    add-s
+    loop-less
+    loop-again
+    returns)

@@ -1,0 +1,3 @@
+-- The decoding of a page.
+pub mod Sectors
+pub mod Decode

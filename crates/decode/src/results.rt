@@ -1,0 +1,82 @@
+// Decodings that no rule of the choice gives: refusals, and a page that was never written.
+ghost use mathlib.Core.Path.{_≡_};
+ghost use Rattle.summary.specs.Page.{blankFits};
+ghost use Rattle.decode.specs.Sectors.{unallocatedFits};
+ghost use Rattle.decode.specs.Decode.{refusedWith, refusal, unallocatedOf};
+use crate::Decoding;
+use answers::Answer;
+use answers::Bvs;
+use answers::Confidence;
+use answers::Evidence;
+use answers::Grounds;
+use answers::Source;
+use answers::WarningKind;
+use answers::Warnings;
+use choice::Choice;
+use sector::Fit;
+
+pub(crate) fn refused(answer: Answer) -> Decoding
+    ensures { λ r. ⌜ r ≡ refusal answer ⌝ }
+{
+    refused_with(choice::refused(answer, Bvs::none()))
+}
+
+// A refusal drops the warnings: its choice says why.
+pub(crate) fn refused_with(choice: Choice) -> Decoding
+    ensures { λ r. ⌜ r ≡ refusedWith choice ⌝ }
+{
+    let fits = blank_fits();
+    let warnings = Warnings::none();
+    Decoding {
+        choice,
+        fits,
+        warnings,
+    }
+}
+
+pub(crate) fn unallocated() -> Decoding
+    ensures { λ r. ⌜ r ≡ unallocatedOf ⌝ }
+{
+    let grounds = Grounds::none().with(Evidence::Unallocated);
+    let group = Bvs::none();
+    let choice = Choice {
+        answer: Answer::Accepted,
+        bv: 0,
+        source: Source::Unallocated,
+        confidence: Confidence::Unallocated,
+        grounds,
+        group,
+        warned: WarningKind::Nothing,
+    };
+    let fits = unallocated_fits();
+    let warnings = Warnings::none();
+    Decoding {
+        choice,
+        fits,
+        warnings,
+    }
+}
+
+pub(crate) fn blank_fits() -> [Fit; 8]
+    ensures { λ r. ⌜ r ≡ blankFits ⌝ }
+{
+    let blank = Fit {
+        step: 0,
+        peak: 0,
+        runner_up: 0,
+        exact: false,
+    };
+    [blank; 8]
+}
+
+fn unallocated_fits() -> [Fit; 8]
+    ensures { λ r. ⌜ r ≡ unallocatedFits ⌝ }
+{
+    let fit = Fit {
+        step: 0,
+        peak: 0,
+        runner_up: 0,
+        exact: true,
+    };
+    [fit; 8]
+}
