@@ -1,0 +1,2 @@
+-- What the contract of `scan_c` cites.
+pub mod Packed
