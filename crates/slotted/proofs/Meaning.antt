@@ -1,0 +1,66 @@
+-- What the parse and the rows come to: at most three warnings; rows that follow one another without a gap up to 0xFF0; and a directory that
+-- fits its table. Assumes nothing.
+use Prim.Native.Nat.{ℕ, zero, suc, _+_, _-_, _≤_, _<_}
+use mathlib.Core.Path.{_≡_, refl}
+use mathlib.Core.List.{List, [], _∷_}
+use mathlib.Core.Bool.{Bool, true, false}
+use native.Mathlib.Omega.{arith}
+use lib.Dec.{eqb, leb}
+use lib.ListN.{length, set}
+use Rattle.lists.specs.Cases.{pick}
+use Rattle.answers.specs.Warns.{warningNumber, noParseWarnings, withParseWarning}
+use Rattle.answers.specs.declared.notices.WarningKind.{WarningKind}
+use Rattle.answers.specs.declared.notices.ParseWarnings.{ParseWarnings}
+use Rattle.slotted.specs.Rows.{rowIn}
+use Rattle.slotted.specs.Decisions.{decisionOf}
+use Rattle.slotted.specs.Parses.{warned, parsedOf}
+use Rattle.slotted.specs.RowAnswers.{rowsOf, rowOf}
+use Rattle.slotted.specs.declared.verdicts.Decided.{Decided}
+use Rattle.slotted.specs.declared.spans.Span.{Span}
+use Rattle.slotted.specs.declared.spans.Span.the-variants.{At, NoRow}
+use Rattle.slotted.proofs.Asking.{no-rows, row-fits}
+
+one-more : (t : ParseWarnings) (page : ℕ) (kind : WarningKind) (n : ℕ) → t .len ≤ n → warned t page kind .len ≤ n + 1
+unfolding warned withParseWarning
+one-more t page kind n h = go (eqb (warningNumber kind) 0) (leb 386 (t .len)) (record { items = set (t .items) (t .len) (record { page = page; kind = kind }); len = t .len + 1 }) refl
+  where
+    go : (b c : Bool) (u : ParseWarnings) → u .len ≡ t .len + 1 → pick b t (pick c t u) .len ≤ n + 1
+    go true c u e = omega arith
+    go false true u e = omega arith
+    go false false u e = omega arith
+
+-- "a parse never gives more than three warnings"
+pub three-warnings : (lim page : ℕ) (p : List ℕ) (lenient : Bool) → parsedOf lim page p lenient .warnings .len ≤ 3
+unfolding parsedOf noParseWarnings
+three-warnings lim page p lenient =
+    let d : Decided = decisionOf lim p lenient in
+    let a = one-more noParseWarnings page (d .first) 0 (omega arith) in
+    let b = one-more (warned noParseWarnings page (d .first)) page (d .second) 1 a in
+    one-more (warned (warned noParseWarnings page (d .first)) page (d .second)) page (d .third) 2 b
+
+-- a row is not empty, and lies below the trailer
+pub row-some : (lim : ℕ) (p : List ℕ) (lenient : Bool) (r o e : ℕ) → rowOf lim p lenient r ≡ At o e → (o < e) × (e ≤ 0xFF0)
+row-some lim p lenient r o e q = let f = row-fits lim p lenient r o e q in (f .0, f .1)
+
+-- the next row starts where a row ends; the last ends at 0xFF0
+pub Next : ℕ → Span → Type 0
+Next e (At o f) = o ≡ e
+Next e NoRow = e ≡ 0xFF0
+
+next-in : (r : ℕ) (l : List ℕ) (o e : ℕ) → rowIn r l ≡ At o e → Next e (rowIn (suc r) l)
+unfolding rowIn Next
+next-in zero [] o e q = let z : _≡_ {A = ℕ} 0 1 = cc in absurd (omega arith)
+next-in zero (x ∷ []) o e q = cc
+next-in zero (x ∷ y ∷ l) o e q = cc
+next-in (suc r) [] o e q = let z : _≡_ {A = ℕ} 0 1 = cc in absurd (omega arith)
+next-in (suc r) (x ∷ l) o e q = next-in r l o e q
+
+pub row-next : (lim : ℕ) (p : List ℕ) (lenient : Bool) (r o e : ℕ) → rowOf lim p lenient r ≡ At o e → Next e (rowOf lim p lenient (suc r))
+row-next lim p lenient r o e q = next-in r (rowsOf lim p lenient) o e q
+
+-- row r is there just where r is below the number of rows
+pub row-there : (r : ℕ) (l : List ℕ) → (r < length l → rowIn r l ≡ NoRow → ⊥) × (length l ≤ r → rowIn r l ≡ NoRow)
+unfolding rowIn
+row-there r [] = ((λ h q. omega arith), λ h. no-rows r)
+row-there zero (x ∷ l) = ((λ h q. let z : _≡_ {A = ℕ} 0 1 = cc in omega arith), λ h. absurd (omega arith))
+row-there (suc r) (x ∷ l) = let i = row-there r l in ((λ h q. i .0 (omega arith) q), λ h. i .1 (omega arith))

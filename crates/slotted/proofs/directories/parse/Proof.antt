@@ -1,0 +1,69 @@
+-- `parse` meets its contract: the tables are built from the decision.
+use mathlib.Core.Path.{ap, _∙_}
+use Rattle.lists.specs.Bytes.{hasBit}
+use Rattle.slotted.specs.Decisions.{decisionOf}
+use Rattle.slotted.proofs.Tables.{parsed-is}
+use Rattle.slotted.proofs.Asking.{sound-decided}
+use borrow.Author.Needs.{needs}
+use Rattle.slotted.proofs.directories.parse.Statement.{statement}
+use Rattle.slotted.proofs.directories.parse.Tie as tie
+
+directory-requires : tie.Need-directory-requires
+directory-requires c κs = search needs
+
+decide-requires : tie.Need-decide-requires
+decide-requires c κs = search needs
+
+answer-requires : tie.Need-answer-requires
+answer-requires c κs = search needs
+
+is-listed-requires : tie.Need-is-listed-requires
+is-listed-requires c κs = search needs
+
+tabled-requires : tie.Need-tabled-requires
+tabled-requires c κs =
+    let d = c .before .before in
+    let a = d .before .before .before .args in
+    sound-decided 0x300 (a .plain .now) _ (d .decide .result) (d .decide .ensures)
+
+none-requires : tie.Need-none-requires
+none-requires c κs = search needs
+
+warn-requires : tie.Need-warn-requires
+warn-requires c κs = search needs
+
+warn-requires-2 : tie.Need-warn-requires-2
+warn-requires-2 c κs = search needs
+
+warn-requires-3 : tie.Need-warn-requires-3
+warn-requires-3 c κs = search needs
+
+returns : tie.Need-returns
+returns c =
+    let w2 = c .before in
+    let w1 = w2 .before in
+    let n = w1 .before in
+    let t = n .before in
+    let l = t .before in
+    let v = l .before in
+    let d = v .before in
+    let a = d .before .before .before .args in
+    parsed-is 0x300 (a .page) (a .plain .now) (hasBit (a .leniency .bits) 2) (d .decide .result)
+    (d .decide .ensures ∙ ap (decisionOf 0x300 (a .plain .now)) (d .before .directory .ensures))
+    (v .answer .result) (l .is-listed .result) (t .tabled .result) (n .none .result) (w1 .warn .result) (w2 .warn2 .result) (c .warn3 .result)
+    (v .answer .ensures) (l .is-listed .ensures) (t .tabled .ensures) (n .none .ensures) (w1 .warn .ensures) (w2 .warn2 .ensures) (c .warn3 .ensures)
+
+pub parse-spec : {M : Type 1} → statement M
+parse-spec =
+    tie.close
+    (tie.spec
+    directory-requires
+    decide-requires
+    answer-requires
+    is-listed-requires
+    tabled-requires
+    none-requires
+    warn-requires
+    warn-requires-2
+    warn-requires-3
+    returns)

@@ -1,0 +1,361 @@
+// What the parse decides, in small values: a refusal or a directory, and at most three warnings. No page number plays a part.
+use answers::Answer;
+use answers::Reason;
+use answers::WarningKind;
+use slots::Found;
+use slots::Prelude;
+use slots::prelude_candidates;
+use slots::scanned_directory;
+ghost use mathlib.Core.Path.{_≡_};
+ghost use Prim.Native.Nat.{ℕ, _+_, _*_, _<_, _≤_};
+ghost use lib.Dec.{eqb};
+ghost use lib.ListN.{length};
+ghost use Rattle.lists.specs.Cases.{pick};
+ghost use Rattle.lists.specs.Bytes.{pairAt};
+ghost use Rattle.slots.specs.Slots.{scannedDirectory};
+ghost use Rattle.slots.specs.declared.preludes.Prelude.the-variants.{Missing};
+ghost use Rattle.slotted.specs.Rows.{isInside, insideOf, tallyOf};
+ghost use Rattle.slotted.specs.Decisions.{answerOf, refusal, taken, fewOf, reasonOf, unconfirmedOf, manyOf, foundOf, SoundIn, checkedAt, checkedOf, decisionOf};
+
+pub(crate) enum Verdict {
+    Accepted,
+    WrongLength(usize),
+    NoDirectory(Reason),
+    NoPrelude,
+    Truncated {
+        found: usize,
+        expected: usize,
+        stop: usize,
+    },
+    Ambiguous,
+    OffsetInside {
+        offset: usize,
+        end: usize,
+    },
+}
+
+// Where the slots stand, and whether a prelude declared them or a scan found them.
+pub(crate) enum Listed {
+    Nothing,
+    Declared { start: usize, count: usize },
+    Scanned { start: usize, count: usize },
+}
+
+// A warning that is `Nothing` is not given.
+pub(crate) struct Decided {
+    pub(crate) verdict: Verdict,
+    pub(crate) listed: Listed,
+    pub(crate) first: WarningKind,
+    pub(crate) second: WarningKind,
+    pub(crate) third: WarningKind,
+}
+
+// The live offsets that point into the directory: the first in slot order, and how many.
+pub(crate) struct Inside {
+    first: usize,
+    dropped: usize,
+}
+
+impl Verdict {
+    pub(crate) fn answer(self, page: u64) -> Answer
+        ensures { λ r. ⌜ r ≡ answerOf page self ⌝ }
+    {
+        match self {
+            Verdict::Accepted => Answer::Accepted,
+            Verdict::WrongLength(length) => Answer::WrongPageLength(length),
+            Verdict::NoDirectory(reason) => Answer::NoSlotDirectory { page, reason },
+            Verdict::NoPrelude => Answer::UnknownPrelude(page),
+            Verdict::Truncated {
+                found,
+                expected,
+                stop,
+            } => Answer::SlotDirectoryTruncated {
+                page,
+                found,
+                expected,
+                stop,
+            },
+            Verdict::Ambiguous => Answer::AmbiguousSlotDirectory(page),
+            Verdict::OffsetInside { offset, end } => {
+                Answer::SlotOffsetInDirectory { page, offset, end }
+            }
+        }
+    }
+}
+
+// The parse of a page, its checks in their order: the length, where the directory is, offsets inside it.
+pub(crate) fn decide(plain: &[u8], limit: usize, lenient: bool) -> Decided
+    ensures { λ r. ⌜ r ≡ decisionOf limit (now (plain .entry)) lenient ⌝ }
+{
+    let length = plain.len();
+    if length != 4096 {
+        return refuse(Verdict::WrongLength(length));
+    }
+    let n = plain[0xFF0];
+    check_inside(plain, lenient, find(plain, limit, n, lenient))
+}
+
+fn refuse(verdict: Verdict) -> Decided
+    ensures { λ r. ⌜ r ≡ refusal verdict ⌝ }
+{
+    Decided {
+        verdict,
+        listed: Listed::Nothing,
+        first: WarningKind::Nothing,
+        second: WarningKind::Nothing,
+        third: WarningKind::Nothing,
+    }
+}
+
+fn take(listed: Listed, first: WarningKind, second: WarningKind) -> Decided
+    ensures { λ r. ⌜ r ≡ taken listed first second ⌝ }
+{
+    Decided {
+        verdict: Verdict::Accepted,
+        listed,
+        first,
+        second,
+        third: WarningKind::Nothing,
+    }
+}
+
+// Where the directory is, by the row count n.
+fn find(plain: &[u8], limit: usize, n: u8, lenient: bool) -> Decided
+    ensures { λ r. ⌜ r ≡ foundOf limit (now (plain .entry)) n lenient ⌝ }
+{
+    if n == 0 {
+        return unconfirmed(
+            scanned_directory(plain, 0, limit),
+            lenient,
+            false,
+            WarningKind::Nothing,
+        );
+    }
+    let found = prelude_candidates(plain, 0, limit, n);
+    if n < 4 {
+        return few(found, n as usize, lenient);
+    }
+    many(plain, limit, found, n as usize, lenient)
+}
+
+// A count from 1 to 3: the pairs (1, 0) to (3, 0) are the commonest in page data, so they confirm nothing.
+fn few(found: Prelude, n: usize, lenient: bool) -> Decided
+    ensures { λ r. ⌜ r ≡ fewOf found n lenient ⌝ }
+{
+    match found {
+        Prelude::Missing => few_none(lenient),
+        Prelude::Truncated { found: _, stop: _ } => few_none(lenient),
+        Prelude::One(start) => {
+            if lenient {
+                return take(
+                    Listed::Declared { start, count: n },
+                    WarningKind::UnverifiedDirectory,
+                    WarningKind::Nothing,
+                );
+            }
+            refuse(Verdict::NoDirectory(Reason::CountBelowFour))
+        }
+        Prelude::Several => {
+            if lenient {
+                return take(
+                    Listed::Nothing,
+                    WarningKind::AmbiguousSlotDirectory,
+                    WarningKind::Nothing,
+                );
+            }
+            refuse(Verdict::NoDirectory(Reason::CountBelowFour))
+        }
+    }
+}
+
+fn few_none(lenient: bool) -> Decided
+    ensures { λ r. ⌜ r ≡ fewOf Missing 0 lenient ⌝ }
+{
+    if lenient {
+        return take(
+            Listed::Nothing,
+            WarningKind::UnknownPrelude,
+            WarningKind::Nothing,
+        );
+    }
+    refuse(Verdict::NoPrelude)
+}
+
+// A count of 4 or more: one prelude confirms the directory.
+fn many(plain: &[u8], limit: usize, found: Prelude, n: usize, lenient: bool) -> Decided
+    ensures { λ r. ⌜ r ≡ manyOf found n (scannedDirectory limit (now (plain .entry))) lenient ⌝ }
+{
+    match found {
+        Prelude::One(start) => take(
+            Listed::Declared { start, count: n },
+            WarningKind::Nothing,
+            WarningKind::Nothing,
+        ),
+        Prelude::Missing => unconfirmed(
+            scanned_directory(plain, 0, limit),
+            lenient,
+            true,
+            WarningKind::Nothing,
+        ),
+        Prelude::Truncated { found, stop } => {
+            if !lenient {
+                return refuse(Verdict::Truncated {
+                    found,
+                    expected: n,
+                    stop,
+                });
+            }
+            unconfirmed(
+                scanned_directory(plain, 0, limit),
+                true,
+                true,
+                WarningKind::SlotDirectoryTruncated { found, expected: n },
+            )
+        }
+        Prelude::Several => {
+            if !lenient {
+                return refuse(Verdict::Ambiguous);
+            }
+            unconfirmed(
+                scanned_directory(plain, 0, limit),
+                true,
+                true,
+                WarningKind::AmbiguousSlotDirectory,
+            )
+        }
+    }
+}
+
+// No prelude confirms a directory: the scan decides. `counted`: the page has a row count. `before` is warned first.
+fn unconfirmed(found: Found, lenient: bool, counted: bool, before: WarningKind) -> Decided
+    ensures { λ r. ⌜ r ≡ unconfirmedOf found lenient counted before ⌝ }
+{
+    match found {
+        Found::Directory(d) => {
+            if lenient {
+                return take(
+                    Listed::Scanned {
+                        start: d.start,
+                        count: d.slots,
+                    },
+                    before,
+                    WarningKind::UnverifiedDirectory,
+                );
+            }
+            refuse(Verdict::NoDirectory(reason(d.live)))
+        }
+        Found::Nothing => {
+            if !counted {
+                return take(Listed::Nothing, WarningKind::Nothing, WarningKind::Nothing);
+            }
+            if lenient {
+                return take(Listed::Nothing, before, WarningKind::UnknownPrelude);
+            }
+            refuse(Verdict::NoPrelude)
+        }
+    }
+}
+
+fn reason(live: usize) -> Reason
+    ensures { λ r. ⌜ r ≡ reasonOf live ⌝ }
+{
+    if live < 8 {
+        Reason::FewerThanEightLive
+    } else {
+        Reason::Unconfirmed
+    }
+}
+
+// Offsets inside the directory refuse the page, or are dropped with one warning.
+fn check_inside(plain: &[u8], lenient: bool, d: Decided) -> Decided
+    requires { ⌜ SoundIn (now plain) (d .listed) ⌝ }
+    ensures { λ r. ⌜ r ≡ checkedOf (now (plain .entry)) lenient d ⌝ }
+{
+    let listed = d.listed;
+    match listed {
+        Listed::Nothing => d,
+        Listed::Declared { start, count } => check_at(plain, lenient, d, start, count),
+        Listed::Scanned { start, count } => check_at(plain, lenient, d, start, count),
+    }
+}
+
+fn check_at(plain: &[u8], lenient: bool, d: Decided, start: usize, count: usize) -> Decided
+    requires { ⌜ start + 2 * count ≤ length (now plain) ⌝ }
+    ensures { λ r. ⌜ r ≡ checkedAt (now (plain .entry)) lenient d start count ⌝ }
+{
+    let inside = inside_at(plain, start, count);
+    if inside.dropped == 0 {
+        return d;
+    }
+    if !lenient {
+        return refuse(Verdict::OffsetInside {
+            offset: inside.first,
+            end: start + 2 * count,
+        });
+    }
+    let verdict = d.verdict;
+    let listed = d.listed;
+    let first = d.first;
+    let second = d.second;
+    Decided {
+        verdict,
+        listed,
+        first,
+        second,
+        third: WarningKind::SlotOffsetsInDirectory {
+            dropped: inside.dropped,
+        },
+    }
+}
+
+fn inside_at(plain: &[u8], start: usize, count: usize) -> Inside
+    requires { ⌜ start + 2 * count ≤ length (now plain) ⌝ }
+    ensures { λ r. ⌜ r ≡ tallyOf (insideOf (now (plain .entry)) start count) ⌝ }
+{
+    let stop = start + 2 * count;
+    let mut first: usize = 0;
+    let mut dropped: usize = 0;
+    let mut k: usize = 0;
+    while k < count {
+        let v = slot_at(plain, start + 2 * k);
+        if is_inside(start, stop, v) {
+            first = earliest(dropped, first, v);
+            dropped += 1;
+        }
+        k += 1;
+    }
+    Inside { first, dropped }
+}
+
+// The first offset, of which `dropped` came before v.
+fn earliest(dropped: usize, first: usize, v: usize) -> usize
+    ensures { λ r. ⌜ r ≡ pick (eqb dropped 0) v first ⌝ }
+{
+    if dropped == 0 { v } else { first }
+}
+
+// A live offset that points between the array's start and its end; the end itself is outside.
+fn is_inside(start: usize, stop: usize, v: usize) -> bool
+    ensures { λ r. ⌜ r ≡ isInside start stop v ⌝ }
+{
+    if v == 0 {
+        return false;
+    }
+    if v < start {
+        return false;
+    }
+    v < stop
+}
+
+fn wide(x: u8) -> usize
+    ensures { λ r. ⌜ (r ≡ x) × (r < 256) ⌝ }
+{
+    x as usize
+}
+
+pub(crate) fn slot_at(plain: &[u8], i: usize) -> usize
+    requires { ⌜ i + 1 < length (now plain) ⌝ }
+    ensures { λ r. ⌜ (r ≡ pairAt (now (plain .entry)) i) × (r < 65536) ⌝ }
+{
+    wide(plain[i]) + 256 * wide(plain[i + 1])
+}
