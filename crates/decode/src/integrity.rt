@@ -63,5 +63,11 @@ fn judged(
 {
     let choice = choice::choose_bv(page, shifted, anchors, stored[0xFF0], options);
     let leniency = options.leniency;
-    finish(page, leniency.keystream(), refit(fits, shifted), choice, warnings)
+    finish(
+        page,
+        leniency.keystream(),
+        refit(fits, shifted),
+        choice,
+        warnings,
+    )
 }

@@ -9,14 +9,13 @@ mod results;
 mod sectors;
 mod summaries;
 
-
-pub use own::decode_page;
-pub use own::decode_with_bv;
-pub use summaries::decode_summary;
-pub use summaries::decode_summary_with_bv;
 use answers::Warnings;
 use choice::Choice;
+pub use own::decode_page;
+pub use own::decode_with_bv;
 use sector::Fit;
+pub use summaries::decode_summary;
+pub use summaries::decode_summary_with_bv;
 
 // The choice with its answer, the eight fits, the warnings in order. Of a refusal, blanks beside the choice.
 pub struct Decoding {

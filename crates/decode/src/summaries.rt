@@ -71,6 +71,12 @@ pub fn decode_summary_with_bv(
     }
     let choice = choice::supplied_bv(page, bv, shifted, stored[0xFF0], options);
     let leniency = options.leniency;
-    let decoding = finish(page, leniency.keystream(), refit(fits, shifted), choice, Warnings::none());
+    let decoding = finish(
+        page,
+        leniency.keystream(),
+        refit(fits, shifted),
+        choice,
+        Warnings::none(),
+    );
     deliver(decoding, stored, shifted, out)
 }
