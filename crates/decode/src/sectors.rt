@@ -64,12 +64,12 @@ pub(crate) fn refit(fits: [Fit; 8], shifted: &[u8]) -> [Fit; 8]
     while s < 8 {
         let a = s * 512;
         let e = summary::sector_end(s);
-        let f = fits[s];
+        let kept = fits[s];
         let exact = sector::all_same(&shifted[a..e]);
         made[s] = Fit {
-            step: f.step,
-            peak: f.peak,
-            runner_up: f.runner_up,
+            step: kept.step,
+            peak: kept.peak,
+            runner_up: kept.runner_up,
             exact,
         };
         s += 1;

@@ -32,11 +32,11 @@ mul-a c = search needs
 sector-end-requires : tie.Need-sector-end-requires Inv-loop μ-loop
 sector-end-requires c κs = search needs
 
-mul-f : tie.Need-mul-f Inv-loop μ-loop
-mul-f c = search needs
+mul-kept : tie.Need-mul-kept Inv-loop μ-loop
+mul-kept c = search needs
 
-array-copy-out-f : tie.Need-array-copy-out-f Inv-loop μ-loop
-array-copy-out-f c = search needs
+array-copy-out-kept : tie.Need-array-copy-out-kept Inv-loop μ-loop
+array-copy-out-kept c = search needs
 
 sub-all-same : tie.Need-sub-all-same Inv-loop μ-loop
 sub-all-same c = search needs
@@ -94,8 +94,8 @@ refit-spec =
     loop-holds
     mul-a
     sector-end-requires
-    mul-f
-    array-copy-out-f
+    mul-kept
+    array-copy-out-kept
     sub-all-same
     part-all-same-start
     part-all-same-end

@@ -47,10 +47,13 @@ use Rattle.slotted.proofs.spans.Row as T
 use Rattle.slotted.proofs.spans.Row.Laws as T′
 use Rattle.slotted.proofs.spans.row_start as start
 use Rattle.slotted.proofs.spans.row_start.Symbol as start-def
+use Rattle.slotted.proofs.spans.row_start.Symbol.{name as #row-start}
 use Rattle.slotted.proofs.spans.row_start.Met as start-thm
 use Rattle.slotted.proofs.spans.row_part as bytes
 use Rattle.slotted.proofs.spans.row_part.Symbol as bytes-def
+use Rattle.slotted.proofs.spans.row_part.Symbol.{name as #row-part}
 use Rattle.slotted.proofs.spans.row_part.Met as bytes-thm
+use Rattle.slotted.proofs.spans.row_at.Key.{name as #row-at}
 use Rattle.slotted.proofs.spans.row_at as rec
 use Rattle.slotted.proofs.spans.row_at.Statement as stated
 use Rattle.slotted.proofs.spans.row_at.Code as code

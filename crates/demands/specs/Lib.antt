@@ -1,0 +1,2 @@
+-- What the demands speak of beside the rules.
+pub mod Edits
