@@ -1,0 +1,49 @@
+-- `digit_value` meets its contract: each range by its wrapping difference.
+use borrow.Author.Needs.{needs}
+use Rattle.frame.proofs.Values.{digit-decimal, digit-upper, digit-lower, digit-none}
+use Rattle.frame.proofs.digits.digit_value.Statement.{statement}
+use Rattle.frame.proofs.digits.digit_value.Tie as tie
+use Rattle.frame.proofs.digits.digit_value.Reads as reads
+use Rattle.frame.proofs.digits.digit_value.Lts as lts
+use Rattle.std.proofs.num.wrapping_sub_u8.Reads as wrapping-sub-u8-reads
+
+wrapping-sub-u8-requires : tie.Need-wrapping-sub-u8-requires
+wrapping-sub-u8-requires c κs = search needs
+
+wrapping-sub-u8-requires-2 : tie.Need-wrapping-sub-u8-requires-2
+wrapping-sub-u8-requires-2 c κs = search needs
+
+wrapping-sub-u8-requires-3 : tie.Need-wrapping-sub-u8-requires-3
+wrapping-sub-u8-requires-3 c κs = search needs
+
+returns : tie.Need-returns
+returns c = digit-decimal (c .before .before .before .before .args .c) (c .before .before .before .wrapping-sub-u8 .result) (c .before .before .wrapping-sub-u82 .result) (c .before .wrapping-sub-u83 .result) (search needs) (c .before .before .before .wrapping-sub-u8 .ensures) (c .before .before .wrapping-sub-u82 .ensures) (c .before .wrapping-sub-u83 .ensures) (search needs)
+
+add-result : tie.Need-add-result
+add-result c = search needs
+
+returns-2 : tie.Need-returns-2
+returns-2 c = digit-upper (c .before .before .before .before .before .args .c) (c .before .before .before .before .wrapping-sub-u8 .result) (c .before .before .before .wrapping-sub-u82 .result) (c .before .before .wrapping-sub-u83 .result) (search needs) (c .before .before .before .before .wrapping-sub-u8 .ensures) (c .before .before .before .wrapping-sub-u82 .ensures) (c .before .before .wrapping-sub-u83 .ensures) (search needs) (search needs) (search needs)
+
+add-result-2 : tie.Need-add-result-2
+add-result-2 c = search needs
+
+returns-3 : tie.Need-returns-3
+returns-3 c = digit-lower (c .before .before .before .before .before .before .args .c) (c .before .before .before .before .before .wrapping-sub-u8 .result) (c .before .before .before .before .wrapping-sub-u82 .result) (c .before .before .before .wrapping-sub-u83 .result) (search needs) (c .before .before .before .before .before .wrapping-sub-u8 .ensures) (c .before .before .before .before .wrapping-sub-u82 .ensures) (c .before .before .before .wrapping-sub-u83 .ensures) (search needs) (search needs) (search needs) (search needs) (search needs)
+
+returns-4 : tie.Need-returns-4
+returns-4 c = digit-none (c .before .before .before .before .before .before .args .c) (c .before .before .before .before .before .wrapping-sub-u8 .result) (c .before .before .before .before .wrapping-sub-u82 .result) (c .before .before .before .wrapping-sub-u83 .result) (search needs) (c .before .before .before .before .before .wrapping-sub-u8 .ensures) (c .before .before .before .before .wrapping-sub-u82 .ensures) (c .before .before .before .wrapping-sub-u83 .ensures) (search needs) (search needs) (search needs) (search needs) (search needs) (search needs)
+
+pub digit-value-spec : {M : Type 1} → statement M
+digit-value-spec =
+    tie.close
+    (tie.spec
+    wrapping-sub-u8-requires
+    wrapping-sub-u8-requires-2
+    wrapping-sub-u8-requires-3
+    returns
+    add-result
+    returns-2
+    add-result-2
+    returns-3
+    returns-4)

@@ -1,0 +1,98 @@
+-- `put_digits` meets its contract: the digits of the bytes passed stand at the front.
+use borrow.Author.Needs.{needs}
+use Prim.Native.Nat.{ℕ, _≤_, _-_, _+_}
+use mathlib.Core.Path.{_≡_, refl, sym, ap, _∙_}
+use native.Mathlib.Omega.{arith}
+use lib.ListN.{length, take, length-set}
+use Rattle.lists.specs.Pieces.{over}
+use Rattle.frame.specs.Digits.{hexed}
+use Rattle.frame.proofs.Fill.{over-none, front-more, over-all}
+use Rattle.frame.proofs.Spelling.{hexed-length, hexed-high, hexed-low}
+use Rattle.frame.proofs.Spelling.{hexed-more}
+use Rattle.frame.proofs.digits.put_digits.Statement.{statement}
+use Rattle.frame.proofs.digits.put_digits.Tie as tie
+use Rattle.frame.proofs.digits.put_digits.Reads as reads
+use Rattle.frame.proofs.digits.put_digits.Lts as lts
+use Rattle.frame.proofs.digits.lower_digit.Reads as lower-digit-reads
+
+abbrev Inv-loop : tie.InvT-loop
+Inv-loop bytes out₀ i₀ out i = (i ≤ length bytes) × (length out ≡ length out₀) × (out ≡ over out₀ 0 (take (i + i) (hexed bytes)))
+
+abbrev μ-loop : tie.MeasureT-loop
+μ-loop bytes out₀ i₀ out i = length bytes - i
+
+loop-holds : tie.Need-loop-holds Inv-loop μ-loop
+loop-holds c = 
+    let a = c .before .before .args in
+    (omega arith, refl, over-none (a .out .now) (hexed (a .bytes .now)) 0)
+
+shared-slice-read-b : tie.Need-shared-slice-read-b Inv-loop μ-loop
+shared-slice-read-b c = search needs
+
+lower-digit-requires : tie.Need-lower-digit-requires Inv-loop μ-loop
+lower-digit-requires c κs = omega (arith, c .shared-slice-known2 .given (c .before .before .loop .i))
+
+add-out : tie.Need-add-out Inv-loop μ-loop
+add-out c = search needs
+
+slice-write-out : tie.Need-slice-write-out Inv-loop μ-loop
+slice-write-out c = search needs
+
+lower-digit-requires-2 : tie.Need-lower-digit-requires-2 Inv-loop μ-loop
+lower-digit-requires-2 c κs = omega arith
+
+add-out-2 : tie.Need-add-out-2 Inv-loop μ-loop
+add-out-2 c = search needs
+
+add-out-3 : tie.Need-add-out-3 Inv-loop μ-loop
+add-out-3 c = search needs
+
+slice-write-out-2 : tie.Need-slice-write-out-2 Inv-loop μ-loop
+slice-write-out-2 c = simp length-set (omega arith)
+
+add-i : tie.Need-add-i Inv-loop μ-loop
+add-i c = search needs
+
+loop-less : tie.Need-loop-less Inv-loop μ-loop
+loop-less c = search needs
+
+loop-again : tie.Need-loop-again Inv-loop μ-loop
+loop-again c = 
+    let l = c .before .before .before .before .loop in
+    let a = c .before .before .before .before .before .before .before .args in
+    let n = l .inv .1 in
+    (
+      omega arith,
+      simp length-set n,
+      rw (l .inv .2) (hexed-more (a .out .now) (a .bytes .now) (l .i) _ _ (omega arith) (search needs) (c .before .lower-digit .ensures) (c .lower-digit2 .ensures)),
+    )
+
+same-length : tie.Need-same-length Inv-loop μ-loop
+same-length c = search needs
+
+returns : tie.Need-returns Inv-loop μ-loop
+returns c = 
+    let l = c .before .loop in
+    let a = c .before .before .before .before .args in
+    l .inv .2 ∙ over-all (a .out .now) (hexed (a .bytes .now)) 0 (l .i + l .i) (omega (arith, hexed-length (a .bytes .now)))
+
+pub put-digits-spec : {M : Type 1} → statement M
+put-digits-spec =
+    tie.close
+    (tie.spec
+    Inv-loop
+    μ-loop
+    loop-holds
+    shared-slice-read-b
+    lower-digit-requires
+    add-out
+    slice-write-out
+    lower-digit-requires-2
+    add-out-2
+    add-out-3
+    slice-write-out-2
+    add-i
+    loop-less
+    loop-again
+    same-length
+    returns)

@@ -1,0 +1,80 @@
+-- `put_reply` meets its contract: the front of the buffer is the report.
+use borrow.Author.Needs.{needs}
+use Prim.Native.Nat.{ℕ, _+_, _≤_}
+use mathlib.Core.Path.{_≡_, ap, _∙_}
+use mathlib.Core.List.{List}
+use native.Mathlib.Omega.{arith}
+use lib.ListN.{length}
+use Rattle.lists.specs.Pieces.{over}
+use Rattle.frame.specs.Report.{lineOf}
+use Rattle.frame.proofs.Reports.{report-fits, report-number, report-taken}
+use Rattle.frame.proofs.reply.put_reply.Statement.{statement}
+use Rattle.frame.proofs.reply.put_reply.Tie as tie
+use Rattle.frame.proofs.reply.put_reply.Reads as reads
+use Rattle.frame.proofs.reply.put_reply.Lts as lts
+use Rattle.frame.proofs.reply.report_room.Reads as report-room-reads
+use Rattle.frame.proofs.writing.put_line.Reads as put-line-reads
+use Rattle.frame.proofs.writing.put_report.Reads as put-report-reads
+
+report-room-requires : tie.Need-report-room-requires
+report-room-requires c κs = search needs
+
+slice-aggregate-put-report : tie.Need-slice-aggregate-put-report
+slice-aggregate-put-report c = search needs
+
+put-report-requires : tie.Need-put-report-requires
+put-report-requires c κs = search needs
+
+sub-put-line : tie.Need-sub-put-line
+sub-put-line c = search needs
+
+part-put-line-start : tie.Need-part-put-line-start
+part-put-line-start c = search needs
+
+part-put-line-end : tie.Need-part-put-line-end
+part-put-line-end c = 
+    let a = c .before .before .before .before .before .before .args in
+    let p = c .before .before .put-report in
+    let room = c .before .before .before .before .report-room in
+    let fits = report-fits (a .d) (a .page) in
+    let number = report-number (a .d) (a .page) (room .result) (room .ensures) (p .result) (p .ensures .0) in
+    let k : length (p .last .1 .1 .0) ≡ length (room .result) = p .kept .1 .1 .0 in
+    omega (arith, room .ensures)
+
+put-line-requires : tie.Need-put-line-requires
+put-line-requires c κs = 
+    let a = c .before .before .before .before .before .before .before .before .args in
+    let p = c .before .before .before .before .put-report in
+    let room = c .before .before .before .before .before .before .report-room in
+    let fits = report-fits (a .d) (a .page) in
+    let number = report-number (a .d) (a .page) (room .result) (room .ensures) (p .result) (p .ensures .0) in
+    let taken = report-taken (a .d) (a .page) (room .result) (room .ensures) (p .result) (p .ensures .0) (p .last .1 .1 .0) (p .ensures .1) in
+    rw taken (omega arith)
+
+same-length : tie.Need-same-length
+same-length c = search needs
+
+returns : tie.Need-returns
+returns c = 
+    let a = c .before .before .before .before .before .before .before .before .before .before .before .args in
+    let p = c .before .before .before .before .before .before .before .put-report in
+    let room = c .before .before .before .before .before .before .before .before .before .report-room in
+    let fits = report-fits (a .d) (a .page) in
+    let number = report-number (a .d) (a .page) (room .result) (room .ensures) (p .result) (p .ensures .0) in
+    let taken = report-taken (a .d) (a .page) (room .result) (room .ensures) (p .result) (p .ensures .0) (p .last .1 .1 .0) (p .ensures .1) in
+    let l = c .before .before .put-line in
+    (l .ensures .0 ∙ ap (λ (x : List ℕ). length (lineOf x)) taken, l .ensures .1 ∙ ap (λ (x : List ℕ). over (a .out .now) 0 (lineOf x)) taken)
+
+pub put-reply-spec : {M : Type 1} → statement M
+put-reply-spec =
+    tie.close
+    (tie.spec
+    report-room-requires
+    slice-aggregate-put-report
+    put-report-requires
+    sub-put-line
+    part-put-line-start
+    part-put-line-end
+    put-line-requires
+    same-length
+    returns)
