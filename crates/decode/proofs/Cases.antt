@@ -101,9 +101,13 @@ module _ (stored xs : List ℕ) (m : ℕ) (d : Decoding) where
 -- ---- what out holds, from what the decoding is
 
 module _ (r : Decoding) (stored xs out : List ℕ) where
+  pub refused-out : isAccepted (r .choice .answer) ≡ false → out ≡ writtenOf r stored xs out
+  unfolding writtenOf
+  refused-out h = rw h
+
   pub kept-out : (x : Answer) → isAccepted x ≡ false → r ≡ refusal x → out ≡ writtenOf r stored xs out
-  unfolding writtenOf refusedOf
-  kept-out x h e = rw (ap (λ (q : Decoding). isAccepted (q .choice .answer)) e ∙ h)
+  unfolding refusedOf
+  kept-out x h e = refused-out (ap (λ (q : Decoding). isAccepted (q .choice .answer)) e ∙ h)
 
   pub zeros-out : isUnallocated stored ≡ true → r ≡ unallocatedOf → stored ≡ writtenOf r stored xs out
   unfolding writtenOf unallocatedOf

@@ -1,7 +1,7 @@
 -- Document 01, "Answer numbers" and "Summary and replacement": a decoding, in the order 1, 2, unallocated, 3, 4, 15, choice, 7. `stored` is the
 -- stored page, `fits` and `xs` its summary, m the length of out. Assumes nothing.
 use Prim.Native.Nat.{ℕ}
-use mathlib.Core.Bool.{Bool, false, not}
+use mathlib.Core.Bool.{Bool, true, false}
 use mathlib.Core.List.{List, _++_}
 use lib.Dec.{eqb, ltb}
 use lib.ListN.{length, drop}
@@ -97,9 +97,13 @@ checkedOf stored xs m d =
     (refusal (answer.WrongBufferLength m)))
     (refusal (answer.WrongPageLength (length stored)))
 
--- the answer depends on the summary: the lengths are right, and the page was written
-abbrev pub isScanned : List ℕ → ℕ → Bool
-isScanned stored m = pick (eqb (length stored) 4096) (pick (eqb m 4096) (not (isUnallocated stored)) false) false
+-- 3 and 4 do not refuse
+abbrev pub isReadable : ℕ → List ℕ → Options → Bool
+isReadable page stored o = pick (isAccepted (integrityOf page stored)) true (isForgiving o)
+
+-- the answer depends on the summary: the lengths are right, the page was written, and nothing refuses it before the choice
+abbrev pub isScanned : List ℕ → ℕ → Bool → Bool
+isScanned stored m readable = pick (eqb (length stored) 4096) (pick (eqb m 4096) (pick (isUnallocated stored) false readable) false) false
 
 -- a decoding from a summary
 unfoldable pub decodingOf : ℕ → ℕ → List ℕ → List Fit → List ℕ → List ℕ → Options → ℕ → Decoding

@@ -2,19 +2,17 @@
 -- same anchors and options, are those of the final page read afresh; on an alien summary a replacement changes nothing of the other seven
 -- sectors. The contracts of `decode_summary` and `decode_page` are the two sides. Assumes nothing.
 use Prim.Native.Nat.{ℕ, _-_, _*_, _≤_, _<_}
-use mathlib.Core.Path.{_≡_, refl, sym, ap, ap₂, _∙_, subst}
-use mathlib.Core.Bool.{Bool, true, false, _&&_}
+use mathlib.Core.Path.{_≡_, refl, sym, ap, ap₂, _∙_}
+use mathlib.Core.Bool.{false}
 use mathlib.Core.List.{List, [], _∷_}
 use native.Mathlib.Decide.{ℕ-discrete, decLt}
 use native.Mathlib.Omega.{arith}
 use borrow.Author.Tests.{eq-eqb, ne-eqb, lt-ltb, le-ltb}
-use lib.Dec.{eqb, ltb}
 use lib.ListN.{length}
 use Rattle.lists.specs.Pieces.{over}
 use Rattle.answers.specs.Answers.{isAccepted}
 use Rattle.answers.specs.declared.settings.Options.{Options}
 use Rattle.answers.specs.declared.kinds.Answer.{Answer}
-use Rattle.answers.specs.declared.kinds.Answer.the-variants as answer
 use Rattle.sector.specs.declared.fits.Fit.{Fit}
 use Rattle.summary.specs.Page.{endOf, fitsOf, bytesOf}
 use Rattle.summary.specs.Replace.{replaceAnswer}

@@ -9,3 +9,4 @@ pub mod Tables
 pub mod Tops
 pub mod Sound
 pub mod Masses
+pub mod Warned

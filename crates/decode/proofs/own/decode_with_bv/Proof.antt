@@ -1,5 +1,7 @@
+use mathlib.Core.Bool.{true}
+use Rattle.lists.proofs.Picks.{never-both}
 use Rattle.decode.specs.declared.Decoding.{Decoding}
-use mathlib.Core.Path.{_∙_}
+use mathlib.Core.Path.{refl, _∙_}
 use Prim.Native.Nat.{ℕ}
 use mathlib.Core.List.{List}
 use denote.Ref.{now}
@@ -46,7 +48,8 @@ returns c = let a = c .before .before .before .before .before .before .before .b
     let decide : List Fit → List ℕ → Decoding = λ g l. settledOf (a .page) (isLenient (a .options)) (refitOf g l) (suppliedOf 0x300 (a .page) (a .bv) l (rowCount stored) (a .options)) noWarnings in
     let k =
     alike-scan stored out decide (fitsOf (a .page) stored) blankFits (bytesOf (a .page) stored) (kept .result) (kept .ensures)
-    (summary-length (a .page) stored) (s .result) (s .last .1 .1 .1 .0) (s .ensures .0) (s .ensures .1) in
+    (summary-length (a .page) stored) true (λ n. absurd (never-both n refl)) (λ n. absurd (never-both n refl))
+    (s .result) (s .last .1 .1 .1 .1 .0) (s .ensures .0) (s .ensures .1) in
     (d .ensures .0 ∙ k .same, d .ensures .1 ∙ k .written (d .result) (d .ensures .0 ∙ k .same))
 
 pub decode-with-bv-spec : {M : Type 1} → statement M
