@@ -1,5 +1,5 @@
-use borrow.Author.Needs.{needs}
 -- A fold over the table's places, from the first.
+use borrow.Author.Needs.{needs}
 use Prim.Native.Nat.{ℕ, _-_, _≤_, min}
 use mathlib.Core.Path.{_≡_, sym, ap, _∙_}
 use Rattle.lists.specs.Pieces.{each, fold}

@@ -1,5 +1,5 @@
-use borrow.Author.Needs.{needs}
 -- The four cases of a rival.
+use borrow.Author.Needs.{needs}
 use mathlib.Core.Path.{sym}
 use Rattle.choice.proofs.Members.{rival-same, rival-voted, rival-anchored, rival-none}
 use Rattle.choice.proofs.groups.is_rival.Statement.{statement}

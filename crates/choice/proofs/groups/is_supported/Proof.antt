@@ -1,5 +1,5 @@
-use borrow.Author.Needs.{needs}
 -- The three cases of support.
+use borrow.Author.Needs.{needs}
 use mathlib.Core.Path.{sym}
 use Rattle.choice.proofs.Members.{supported-same, supported-voted, supported-anchored}
 use Rattle.choice.proofs.groups.is_supported.Statement.{statement}

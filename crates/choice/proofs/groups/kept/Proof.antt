@@ -1,5 +1,5 @@
-use borrow.Author.Needs.{needs}
 -- Candidate after candidate the table holds the members so far.
+use borrow.Author.Needs.{needs}
 use Prim.Native.Nat.{_-_, _≤_, _<_}
 use mathlib.Core.Path.{sym, _∙_}
 use mathlib.Core.Logic.{⊎-elim}

@@ -1,5 +1,5 @@
-use borrow.Author.Needs.{needs}
 -- The two tests, one after the other.
+use borrow.Author.Needs.{needs}
 use borrow.Author.Tests.{le-leb, lt-leb}
 use Rattle.choice.proofs.supplied.is_agreed.Statement.{statement}
 use Rattle.choice.proofs.supplied.is_agreed.Tie as tie

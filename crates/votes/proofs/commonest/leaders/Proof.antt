@@ -1,5 +1,5 @@
-use borrow.Author.Needs.{needs}
 -- The pass keeps the four greatest keys; the first is the top's, and the fourth tells the four commonest.
+use borrow.Author.Needs.{needs}
 use Prim.Native.Nat.{ℕ, _-_, _≤_}
 use native.Mathlib.Omega.{arith}
 use mathlib.Core.Path.{_≡_, ap, _∙_, subst}

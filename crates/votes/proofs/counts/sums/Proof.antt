@@ -1,5 +1,5 @@
-use borrow.Author.Needs.{needs}
 -- Place after place the sum of four counts, none above 1,020.
+use borrow.Author.Needs.{needs}
 use Prim.Native.Nat.{_+_, _-_, _≤_}
 use native.Mathlib.Omega.{arith}
 use mathlib.Core.Path.{refl}

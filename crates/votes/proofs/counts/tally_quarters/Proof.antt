@@ -1,5 +1,5 @@
-use borrow.Author.Needs.{needs}
 -- One byte more of each quarter keeps the four tables; `a` to `d` are those of the quarters.
+use borrow.Author.Needs.{needs}
 use Prim.Native.Nat.{ℕ, _-_, _≤_}
 use native.Mathlib.Nat.{add-zero}
 use native.Mathlib.Omega.{arith}

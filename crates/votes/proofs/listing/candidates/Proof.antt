@@ -1,5 +1,5 @@
-use borrow.Author.Needs.{needs}
 -- Value after value the table holds the candidates below it.
+use borrow.Author.Needs.{needs}
 use Prim.Native.Nat.{_-_, _≤_}
 use native.Mathlib.Omega.{arith}
 use mathlib.Core.Path.{_≡_, sym, ap, ap₂, _∙_}

@@ -1,5 +1,5 @@
-use borrow.Author.Needs.{needs}
 -- The list is searched from its front.
+use borrow.Author.Needs.{needs}
 use Prim.Native.Nat.{_-_, _≤_}
 use mathlib.Core.Path.{_≡_, refl, sym, _∙_}
 use lib.ListN.{length, drop}

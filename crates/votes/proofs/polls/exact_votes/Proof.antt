@@ -1,5 +1,5 @@
-use borrow.Author.Needs.{needs}
 -- Sector after sector the table tallies the votes so far.
+use borrow.Author.Needs.{needs}
 use Prim.Native.Nat.{_-_, _≤_}
 use native.Mathlib.Omega.{arith}
 use mathlib.Core.Path.{_∙_}

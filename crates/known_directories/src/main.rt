@@ -1,0 +1,324 @@
+// Pages whose answers are known: document 01's page with four rows, and one for each of the answers 1, 8 to 12 and 16, strictly and
+// leniently. What they must give was written down by the original, from the same pages (compare/bench-slots, `known`).
+use answers::Answer;
+use answers::Leniency;
+use answers::ParseWarnings;
+use answers::WarningKind;
+use libc::STDIN_FILENO;
+use libc::STDOUT_FILENO;
+use slotted::Declared;
+use slotted::Span;
+
+fn text(s: &[u8]) {
+    io::write_all(STDOUT_FILENO, s);
+}
+
+fn number(n: u64) {
+    text(b" ");
+    io::print_decimal(STDOUT_FILENO, n);
+}
+
+// A pair at an offset, the least byte first.
+fn put(page: &mut [u8], at: usize, low: u8, high: u8) {
+    if page.len() <= at {
+        return;
+    }
+    if page.len() - at < 2 {
+        return;
+    }
+    page[at] = low;
+    page[at + 1] = high;
+}
+
+fn answer(a: Answer) {
+    number(a.number() as u64);
+    match a {
+        Answer::WrongPageLength(n) => number(n as u64),
+        Answer::NoSlotDirectory { page, reason } => {
+            number(page);
+            number(reason.number() as u64);
+        }
+        Answer::UnknownPrelude(page) => number(page),
+        Answer::SlotDirectoryTruncated {
+            page,
+            found,
+            expected,
+            stop,
+        } => {
+            number(page);
+            number(found as u64);
+            number(expected as u64);
+            number(stop as u64);
+        }
+        Answer::AmbiguousSlotDirectory(page) => number(page),
+        Answer::SlotOffsetInDirectory { page, offset, end } => {
+            number(page);
+            number(offset as u64);
+            number(end as u64);
+        }
+        Answer::NoSuchRow(r) => number(r as u64),
+        _ => {}
+    }
+}
+
+fn warning(kind: WarningKind) {
+    number(kind.number() as u64);
+    match kind {
+        WarningKind::SlotDirectoryTruncated { found, expected } => {
+            number(found as u64);
+            number(expected as u64);
+        }
+        WarningKind::SlotOffsetsInDirectory { dropped } => number(dropped as u64),
+        _ => {}
+    }
+}
+
+fn declared(how: Declared) {
+    match how {
+        Declared::Count(n) => number(n as u64),
+        Declared::Scanned => text(b" -"),
+    }
+}
+
+// The parse, then the rows.
+fn show(name: &[u8], plain: &[u8], bits: u8) {
+    text(name);
+    let leniency = Leniency::new(bits);
+    let parsed = slotted::parse(7, plain, leniency);
+    let a = parsed.answer;
+    answer(a);
+    if parsed.found {
+        let directory = parsed.directory;
+        text(b" directory");
+        number(directory.array_start as u64);
+        number(directory.end as u64);
+        number(directory.len as u64);
+        let how = directory.declared;
+        declared(how);
+    }
+    text(b" warnings");
+    let warnings = parsed.warnings;
+    nth_warning(warnings, 0);
+    nth_warning(warnings, 1);
+    nth_warning(warnings, 2);
+    text(b" rows");
+    rows(plain, leniency);
+    text(b"\n");
+}
+
+// Nothing past the last: a parse has at most three.
+fn nth_warning(warnings: ParseWarnings, i: usize) {
+    if warnings.len <= i {
+        return;
+    }
+    if 386 <= i {
+        return;
+    }
+    let w = warnings.items[i];
+    let kind = w.kind;
+    warning(kind);
+}
+
+fn rows(plain: &[u8], leniency: Leniency) {
+    let count = slotted::row_count(plain, leniency);
+    let mut r: usize = 0;
+    while r < count {
+        match slotted::row_span(plain, leniency, r) {
+            Span::At { offset, end: _ } => number(offset as u64),
+            Span::NoRow => text(b" none"),
+        }
+        number(slotted::row_bytes(plain, leniency, r).len() as u64);
+        r += 1;
+    }
+    text(b" then");
+    answer(slotted::row_answer(7, plain, leniency, count));
+}
+
+fn both(name: &[u8], plain: &[u8]) {
+    show(name, plain, 0);
+    show(name, plain, 2);
+}
+
+fn matches(plain: &[u8], t: u8) {
+    if slots::page_row_count_matches(plain, t) {
+        text(b" yes");
+    } else {
+        text(b" no");
+    }
+}
+
+fn four_rows() {
+    let mut page = io::buffer();
+    put(&mut page, 0xFF0, 5, 0);
+    put(&mut page, 0x40, 0x05, 0x00);
+    put(&mut page, 0x44, 0x00, 0x0F);
+    put(&mut page, 0x46, 0x00, 0x0E);
+    put(&mut page, 0x48, 0x00, 0x0D);
+    put(&mut page, 0x4C, 0x00, 0x0C);
+    both(b"four rows", &page);
+    text(b"row count at T 5 and 6");
+    matches(&page, 5);
+    matches(&page, 6);
+    text(b"\n");
+}
+
+fn count_below_four() {
+    let mut page = io::buffer();
+    put(&mut page, 0xFF0, 2, 0);
+    put(&mut page, 0x40, 0x02, 0x00);
+    put(&mut page, 0x44, 0x00, 0x0F);
+    put(&mut page, 0x46, 0x00, 0x0E);
+    both(b"count below four", &page);
+}
+
+fn four_live() {
+    let mut page = io::buffer();
+    put(&mut page, 0x50, 0x00, 0x0F);
+    put(&mut page, 0x52, 0x00, 0x0E);
+    put(&mut page, 0x54, 0x00, 0x0D);
+    put(&mut page, 0x56, 0x00, 0x0C);
+    both(b"four live", &page);
+}
+
+fn eight_live() {
+    let mut page = io::buffer();
+    put(&mut page, 0x50, 0x00, 0x0F);
+    put(&mut page, 0x52, 0x00, 0x0E);
+    put(&mut page, 0x54, 0x00, 0x0D);
+    put(&mut page, 0x56, 0x00, 0x0C);
+    put(&mut page, 0x58, 0x00, 0x0B);
+    put(&mut page, 0x5A, 0x00, 0x0A);
+    put(&mut page, 0x5C, 0x00, 0x09);
+    put(&mut page, 0x5E, 0x00, 0x08);
+    both(b"eight live", &page);
+}
+
+fn no_prelude() {
+    let mut page = io::buffer();
+    put(&mut page, 0xFF0, 5, 0);
+    both(b"no prelude", &page);
+}
+
+fn truncated() {
+    let mut page = io::buffer();
+    put(&mut page, 0xFF0, 6, 0);
+    put(&mut page, 0x40, 0x06, 0x00);
+    put(&mut page, 0x44, 0x00, 0x0F);
+    put(&mut page, 0x46, 0x00, 0x0E);
+    put(&mut page, 0x48, 0x00, 0x0D);
+    put(&mut page, 0x4A, 0x00, 0x0C);
+    put(&mut page, 0x4C, 0x00, 0x0B);
+    put(&mut page, 0x4E, 0xFF, 0xFF);
+    both(b"truncated", &page);
+}
+
+fn two_preludes() {
+    let mut page = io::buffer();
+    put(&mut page, 0xFF0, 4, 0);
+    put(&mut page, 0x40, 0x04, 0x00);
+    put(&mut page, 0x44, 0x00, 0x0F);
+    put(&mut page, 0x46, 0x00, 0x0E);
+    put(&mut page, 0x48, 0x00, 0x0D);
+    put(&mut page, 0x4A, 0x00, 0x0C);
+    put(&mut page, 0x100, 0x04, 0x00);
+    put(&mut page, 0x106, 0x00, 0x0E);
+    put(&mut page, 0x108, 0x00, 0x0D);
+    put(&mut page, 0x10A, 0x00, 0x0C);
+    put(&mut page, 0x10C, 0x00, 0x0B);
+    put(&mut page, 0x10E, 0x00, 0x0A);
+    both(b"two preludes", &page);
+}
+
+fn few_two_preludes() {
+    let mut page = io::buffer();
+    put(&mut page, 0xFF0, 2, 0);
+    put(&mut page, 0x40, 0x02, 0x00);
+    put(&mut page, 0x44, 0x00, 0x0F);
+    put(&mut page, 0x46, 0x00, 0x0E);
+    put(&mut page, 0x100, 0x02, 0x00);
+    put(&mut page, 0x104, 0x00, 0x0E);
+    put(&mut page, 0x106, 0x00, 0x0D);
+    both(b"two preludes of two", &page);
+}
+
+fn offsets_inside() {
+    let mut page = io::buffer();
+    put(&mut page, 0xFF0, 5, 0);
+    put(&mut page, 0x40, 0x05, 0x00);
+    put(&mut page, 0x44, 0x00, 0x0F);
+    put(&mut page, 0x46, 0x00, 0x0E);
+    put(&mut page, 0x48, 0x4C, 0x00);
+    put(&mut page, 0x4A, 0x48, 0x00);
+    put(&mut page, 0x4C, 0x44, 0x00);
+    both(b"offsets inside", &page);
+}
+
+fn offsets_at_the_ends() {
+    let mut page = io::buffer();
+    put(&mut page, 0xFF0, 5, 0);
+    put(&mut page, 0x40, 0x05, 0x00);
+    put(&mut page, 0x44, 0x00, 0x0F);
+    put(&mut page, 0x46, 0x00, 0x0E);
+    put(&mut page, 0x48, 0x00, 0x0D);
+    put(&mut page, 0x4A, 0x4E, 0x00);
+    put(&mut page, 0x4C, 0x43, 0x00);
+    both(b"offsets at the ends", &page);
+}
+
+fn scanned_inside() {
+    let mut page = io::buffer();
+    put(&mut page, 0x50, 0x00, 0x0F);
+    put(&mut page, 0x52, 0x00, 0x0E);
+    put(&mut page, 0x54, 0x00, 0x0D);
+    put(&mut page, 0x56, 0x00, 0x0C);
+    put(&mut page, 0x58, 0x5A, 0x00);
+    put(&mut page, 0x5A, 0x52, 0x00);
+    both(b"scanned, offsets inside", &page);
+}
+
+fn empty() {
+    let mut page = io::buffer();
+    both(b"empty", &page);
+}
+
+fn short() {
+    let page = io::buffer();
+    both(b"short", &page[..4095]);
+}
+
+// The pages of the input, 4,096 bytes each: more than are known by heart.
+fn inputs() {
+    let mut k: usize = 0;
+    while k < 1000000 {
+        if !input() {
+            return;
+        }
+        k += 1;
+    }
+}
+
+fn input() -> bool {
+    let mut page = io::buffer();
+    if io::read_full(STDIN_FILENO, &mut page) < 4096 {
+        return false;
+    }
+    both(b"input", &page);
+    true
+}
+
+fn main() {
+    four_rows();
+    count_below_four();
+    four_live();
+    eight_live();
+    no_prelude();
+    truncated();
+    two_preludes();
+    few_two_preludes();
+    offsets_inside();
+    offsets_at_the_ends();
+    scanned_inside();
+    empty();
+    short();
+    inputs();
+}
