@@ -1,0 +1,2 @@
+-- What the exported function answers.
+pub mod Settled
