@@ -240,9 +240,9 @@ fn bench() {
                 (0..k).for_each(|_| f());
                 t.elapsed().as_nanos() as f64 / k as f64
             };
-            theirs.push(time(8, &|| drop(black_box(slotted::scanned_directory(black_box(page))))));
-            ours.push(time(8, &|| drop(black_box(unsafe { slots_scanned(black_box(page), 0, LIMIT) }))));
-            wrong.push(time(8, &|| drop(black_box(unsafe { slots_matches(black_box(page), 93, LIMIT, 50, 4) }))));
+            theirs.push(time(8, &|| { black_box(slotted::scanned_directory(black_box(page))); }));
+            ours.push(time(8, &|| { black_box(unsafe { slots_scanned(black_box(page), 0, LIMIT) }); }));
+            wrong.push(time(8, &|| { black_box(unsafe { slots_matches(black_box(page), 93, LIMIT, 50, 4) }); }));
         }
         let (a, b) = (median(theirs), median(ours));
         println!("| {name} | {:.2} µs | {:.2} µs | {:.3} | {:.2} µs |", a / 1000.0, b / 1000.0, b / a, median(wrong) / 1000.0);

@@ -3,7 +3,7 @@
 -- decoding has blank fits and no warnings, and leaves out as it was. Assumes nothing.
 use Prim.Native.Nat.{ℕ, _-_, _*_}
 use mathlib.Core.Path.{_≡_, refl}
-use mathlib.Core.Bool.{false, not}
+use mathlib.Core.Bool.{Bool, false, not}
 use mathlib.Core.List.{List, [], _∷_}
 use lib.Dec.{eqb, ltb}
 use lib.ListN.{length}
@@ -23,6 +23,9 @@ use Rattle.page.specs.declared.trailers.TrailerAnswer.{TrailerAnswer}
 use Rattle.page.specs.declared.superblocks.SuperblockAnswer.{SuperblockAnswer}
 use Rattle.summary.specs.Page.{blankFits, endOf, scanOf}
 use Rattle.summary.specs.Replace.{replaced}
+use Rattle.slotted.specs.Parses as slotted
+use Rattle.slotted.specs.RowAnswers.{rowAnswerOf}
+use Rattle.slotted.proofs.Meaning.{parse-number, row-number}
 use Rattle.choice.specs.declared.Choice.{Choice}
 use Rattle.choice.specs.Rules.{isLenient, choiceOf}
 use Rattle.choice.specs.Supplied.{suppliedOf}
@@ -48,6 +51,12 @@ pub record Answered : Type 0 where
   pub replacement :
       (page s : ℕ) (new : List ℕ) (n m : ℕ) (fits : List Fit)
       → OneOf (0 ∷ 1 ∷ 2 ∷ 14 ∷ []) (replaced page s new n m fits .answer)
+  pub parse :
+      (lim page : ℕ) (p : List ℕ) (lenient : Bool)
+      → OneOf (0 ∷ 1 ∷ 8 ∷ 9 ∷ 10 ∷ 11 ∷ 12 ∷ []) (slotted.parsedOf lim page p lenient .answer)
+  pub row :
+      (lim page : ℕ) (p : List ℕ) (lenient : Bool) (r : ℕ)
+      → OneOf (0 ∷ 1 ∷ 8 ∷ 9 ∷ 10 ∷ 11 ∷ 12 ∷ 16 ∷ []) (rowAnswerOf lim page p lenient r)
   pub choice :
       (lim page : ℕ) (xs anchors : List ℕ) (n : ℕ) (o : Options)
       → OneOf (0 ∷ 2 ∷ 5 ∷ 6 ∷ 15 ∷ []) (choiceOf lim page xs anchors n o .answer)
@@ -166,6 +175,8 @@ every-input-answered =
       checked = checked-one;
       scan = scan-one;
       replacement = replaced-one;
+      parse = λ lim page p lenient. record { is = parse-number lim page p lenient };
+      row = λ lim page p lenient r. record { is = row-number lim page p lenient r };
       choice = λ lim page xs anchors n o. record { is = choice-numbers lim page xs anchors n o .is };
       support = λ lim page bv xs n o. record { is = supplied-numbers lim page bv xs n o .is };
       decoding = λ lim page stored fits xs anchors o m. record { is = decoding-one lim page stored fits xs anchors o m .is };

@@ -12,7 +12,6 @@ use lib.ListN.{length}
 use Rattle.lists.specs.Pieces.{over}
 use Rattle.answers.specs.Answers.{isAccepted}
 use Rattle.answers.specs.declared.settings.Options.{Options}
-use Rattle.answers.specs.declared.kinds.Answer.{Answer}
 use Rattle.sector.specs.declared.fits.Fit.{Fit}
 use Rattle.summary.specs.Page.{endOf, fitsOf, bytesOf}
 use Rattle.summary.specs.Replace.{replaceAnswer}

@@ -1,7 +1,6 @@
 -- The end of a line in a block, and what is kept of a line. Assumes nothing.
 use Prim.Native.Nat.{ℕ, _+_, _-_, _≤_, _<_, min}
-use mathlib.Core.Path.{_≡_, refl, sym, ap, subst, _∙_}
-use mathlib.Core.Bool.{Bool, true, false}
+use mathlib.Core.Path.{_≡_, sym, ap, subst, _∙_}
 use mathlib.Core.List.{List}
 use mathlib.Core.Logic.{⊎-elim}
 use native.Mathlib.Nat.{eq-or-lt-of-le}
@@ -90,3 +89,6 @@ module _ (line : List ℕ) (n : ℕ) (part : List ℕ) where
 
   pub kept-number : (m : ℕ) → n ≤ length line → m ≡ min (length part) (length line - n) → n + m ≡ n + length (fitting line n part)
   kept-number m h e = omega (arith, length-take (length line - n) part)
+
+  pub kept-le : n ≤ length line → n + length (fitting line n part) ≤ length line
+  kept-le h = omega (arith, length-take (length line - n) part)

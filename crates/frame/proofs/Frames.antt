@@ -1,23 +1,22 @@
 -- Which lines are frames, by the tests that the code makes. Assumes nothing.
 use Prim.Native.Nat.{ℕ, _+_, _*_, _/_, _≤_, _<_}
-use mathlib.Core.Path.{_≡_, refl, sym, ap, ap₂, _∙_}
+use mathlib.Core.Path.{_≡_, refl, ap, ap₂, _∙_}
 use mathlib.Core.Bool.{Bool, true, false}
 use mathlib.Core.List.{List}
 use native.Mathlib.Omega.{arith}
 use borrow.Author.Tests.{ltb-true, lt-ltb, eqb-true, eq-eqb, le-leb, lt-leb}
-use lib.Dec.{eqb, ltb, leb}
-use lib.ListN.{length, take}
+use lib.Dec.{eqb}
+use lib.ListN.{length}
 use Rattle.lists.specs.Cases.{pick}
 use Rattle.lists.specs.Bytes.{byteAt}
 use Rattle.lists.specs.Pieces.{over}
-use Rattle.frame.specs.Digits.{digitOf, worstOf, allDigits, spelledAt, spelled, Valued}
-use Rattle.frame.specs.Numbers.{bigEndian}
+use Rattle.frame.specs.Digits.{worstOf, allDigits, spelled, hexed, Valued}
 use Rattle.frame.specs.Frames.{anchorCount, isFrame, pageNumber, optionBits, leastCount, goodOf, frameOf, frameIn, frameBytes}
 use Rattle.frame.specs.declared.reading.Frame.{Frame}
 use Rattle.frame.specs.declared.reading.Frame.the-variants.{Good, Nothing}
 use Rattle.frame.proofs.Fill.{front-at, front-take}
 use Rattle.frame.proofs.Values.{and-no, and-yes, and-both, worst-above}
-use Rattle.frame.proofs.Spelling.{spelled-at, spelled-length}
+use Rattle.frame.proofs.Spelling.{spelled-at, spelled-length, hexed-length, spelled-hexed, hexed-digits}
 
 module _ (line : List ℕ) where
   -- n is a byte
@@ -122,3 +121,13 @@ unfolding frameOf
 frame-good line p o t n e =
     let f = good-fields (isFrame line) p o t n _ _ _ _ e in
     record { frame = f .0; page = f .1; options = f .2; least = f .3; anchors = f .4 }
+
+-- The bytes of a frame, written as hexadecimal, are read back: eleven bytes, as many anchors as the last of them says, and 4,096.
+pub frame-hexed : (bytes : List ℕ) → ((k : ℕ) → k < length bytes → byteAt bytes k < 256) → length bytes ≡ 4107 + byteAt bytes 10
+    → frameOf (hexed bytes) ≡ goodOf bytes (byteAt bytes 10)
+unfolding frameOf
+frame-hexed bytes b h =
+    let back : spelled (hexed bytes) ≡ bytes = spelled-hexed bytes b in
+    let n : anchorCount (hexed bytes) ≡ byteAt bytes 10 = ap (λ (l : List ℕ). byteAt l 10) back in
+    let yes : isFrame (hexed bytes) ≡ true = frame-yes (hexed bytes) (hexed-digits bytes b) (omega (arith, hexed-length bytes)) in
+    rw yes (ap₂ goodOf back n)

@@ -4,7 +4,7 @@ use mathlib.Core.Path.{_≡_, refl, sym, ap, _∙_}
 use mathlib.Core.List.{List, [], _∷_, _++_}
 use native.Mathlib.Nat.{pow-suc}
 use native.Mathlib.Omega.{arith}
-use lib.ListN.{length, getD, take, set, length-append}
+use lib.ListN.{length, take, set, length-append}
 use Rattle.lists.specs.Bytes.{byteAt, fourBytes}
 use Rattle.lists.specs.Pieces.{fold, over}
 use Rattle.lists.proofs.Fold.{fold-last, fold-more}
@@ -36,7 +36,7 @@ big-eight l h =
 pub big-length : (k n : ℕ) → length (bigBytes k n) ≡ k
 unfolding bigBytes
 big-length zero n = refl
-big-length (suc k) n = length-append (bigBytes k (n / 256)) (n % 256 ∷ []) ∙ omega (arith, big-length k (n / 256))
+big-length (suc k) n = simp length-append (omega (arith, big-length k (n / 256)))
 
 big-last : (k n : ℕ) → 0 < k → bigBytes k n ≡ bigBytes (k - 1) (n / 256) ++ (n % 256 ∷ [])
 unfolding bigBytes

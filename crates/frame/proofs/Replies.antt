@@ -1,19 +1,18 @@
 -- The reply to a line, and to what is kept of it. Assumes nothing.
-use Prim.Native.Nat.{ℕ, _+_, _-_, _*_, _/_, _≤_, _<_, min}
-use mathlib.Core.Path.{_≡_, refl, sym, ap, ap₂, _∙_}
-use mathlib.Core.Bool.{Bool, true, false}
-use mathlib.Core.List.{List, [], _∷_, _++_, append-nil}
+use Prim.Native.Nat.{ℕ, _+_, _-_, _≤_, _<_, min}
+use mathlib.Core.Path.{_≡_, sym, ap, ap₂, _∙_}
+use mathlib.Core.Bool.{true, false}
+use mathlib.Core.List.{List, [], _++_, append-nil}
 use native.Mathlib.Omega.{arith}
 use borrow.Author.Tests.{le-leb, lt-leb, leb-true, leb-false}
 use lib.Dec.{leb}
-use lib.ListN.{length, take, drop, length-take, length-append, length-drop}
+use lib.ListN.{length, take, drop, length-take, length-append}
 use lib.Seq.{take-all, take-append-le, take-append-add, length-take-le, take-nil}
-use Rattle.lists.specs.Cases.{pick}
 use Rattle.lists.specs.Pieces.{over}
 use Rattle.lists.proofs.Picks.{pick-case}
 use Rattle.lists.proofs.Over.{over-length, over-up-to}
 use Rattle.frame.specs.Digits.{spelled}
-use Rattle.frame.specs.Frames.{isFrame, anchorCount, anchorsOf, storedOf, frameOf, frameBytes}
+use Rattle.frame.specs.Frames.{isFrame, anchorCount, pageNumber, optionBits, leastCount, anchorsOf, storedOf, frameOf, frameBytes}
 use Rattle.frame.specs.declared.reading.Frame.{Frame}
 use Rattle.frame.specs.declared.reading.Frame.the-variants.{Good, Nothing}
 use Rattle.frame.specs.Lines.{fitting}
@@ -25,7 +24,13 @@ use Rattle.decode.specs.Decode.{decodingOf}
 use Rattle.decode.specs.declared.Decoding.{Decoding}
 use Rattle.frame.specs.Reply.{decoded, frameReport, malformed, replyOf, repliedInto, repliedNumber, Keeps}
 use Rattle.frame.proofs.Fill.{front-part}
+use Rattle.frame.proofs.Reports.{line-size, report-fits}
 use Rattle.frame.proofs.Frames.{Fields, frame-long, frame-bytes, frame-small, frame-nothing, frame-good, bytes-yes}
+
+frame-report-le : (bytes : List ℕ) (n : ℕ) → length (frameReport bytes n) ≤ 61
+unfolding frameReport
+frame-report-le bytes n =
+    report-fits (decoded (pageNumber bytes) (storedOf n bytes) (anchorsOf n bytes) (optionsOf (optionBits bytes) (leastCount bytes))) (pageNumber bytes)
 
 module _ (line : List ℕ) where
   reply-no : isFrame line ≡ false → lineOf malformed ≡ replyOf line
@@ -35,6 +40,21 @@ module _ (line : List ℕ) where
   reply-yes : isFrame line ≡ true → lineOf (frameReport (spelled line) (anchorCount line)) ≡ replyOf line
   unfolding replyOf
   reply-yes e = rw e
+
+  -- the longest reply has 123 characters, so that none leaves its buffer
+  pub reply-length : length (replyOf line) ≤ 123
+  unfolding replyOf
+  reply-length =
+      pick-case (λ (x : List ℕ). length (lineOf x) ≤ 123) (isFrame line) (frameReport (spelled line) (anchorCount line)) malformed
+      (λ e. omega (arith, line-size (frameReport (spelled line) (anchorCount line)), frame-report-le (spelled line) (anchorCount line)))
+      (λ e. omega (arith, line-size malformed))
+
+  pub replied-le : (out : List ℕ) → repliedNumber line out ≤ length out
+  unfolding repliedNumber
+  replied-le out =
+      pick-case (λ (x : ℕ). x ≤ length out) (leb 123 (length out)) (length (replyOf line)) 0
+      (λ e. omega (arith, leb-true 123 (length out) e, reply-length))
+      (λ e. omega arith)
 
   -- a buffer that is too short, and one that is not
   pub reply-short : (out : List ℕ) → length out < 123 → (0 ≡ repliedNumber line out) × (out ≡ repliedInto line out)
@@ -80,23 +100,23 @@ pub kept-answers : (k : ℕ) (line : List ℕ) → 8725 ≤ k → replyOf (take 
 kept-answers k line h =
     pick-case (λ (x : ℕ). replyOf (take k line) ≡ replyOf line) (leb (length line) k) 0 0 (λ e. ap replyOf (take-all k line (leb-true _ _ e)))
     (λ e.
-      let b : k < length line = leb-false _ _ e in
-      let n : length (take k line) ≡ k = length-take-le k line (omega arith) in
-      sym (reply-no (take k line) (frame-long (take k line) (omega arith))) ∙ reply-no line (frame-long line (omega arith)))
+    let b : k < length line = leb-false _ _ e in
+    let n : length (take k line) ≡ k = length-take-le k line (omega arith) in
+    sym (reply-no (take k line) (frame-long (take k line) (omega arith))) ∙ reply-no line (frame-long line (omega arith)))
 
 take-append : (k : ℕ) (xs ys : List ℕ) → take k (xs ++ ys) ≡ take k xs ++ take (k - length xs) ys
 take-append k xs ys =
     pick-case (λ (x : ℕ). take k (xs ++ ys) ≡ take k xs ++ take (k - length xs) ys) (leb k (length xs)) 0 0
     (λ e.
-      let b : k ≤ length xs = leb-true _ _ e in
-      let z : 0 ≡ k - length xs = omega arith in
-      take-append-le k xs ys b ∙ sym (append-nil (take k xs)) ∙ ap (λ (n : ℕ). take k xs ++ take n ys) z)
+    let b : k ≤ length xs = leb-true _ _ e in
+    let z : 0 ≡ k - length xs = omega arith in
+    take-append-le k xs ys b ∙ sym (append-nil (take k xs)) ∙ ap (λ (n : ℕ). take k xs ++ take n ys) z)
     (λ e.
-      let b : length xs < k = leb-false _ _ e in
-      let s : k ≡ length xs + (k - length xs) = omega arith in
-      ap (λ (n : ℕ). take n (xs ++ ys)) s
-      ∙ take-append-add xs ys (k - length xs)
-      ∙ ap (λ (l : List ℕ). l ++ take (k - length xs) ys) (sym (take-all k xs (omega arith))))
+    let b : length xs < k = leb-false _ _ e in
+    let s : k ≡ length xs + (k - length xs) = omega arith in
+    ap (λ (n : ℕ). take n (xs ++ ys)) s
+    ∙ take-append-add xs ys (k - length xs)
+    ∙ ap (λ (l : List ℕ). l ++ take (k - length xs) ys) (sym (take-all k xs (omega arith))))
 
 -- A line that comes in parts: before the first nothing is kept; `keep` keeps the front of all parts so far; and what is kept answers as the line.
 pub keeps-none : (buffer : List ℕ) → Keeps buffer 0 []

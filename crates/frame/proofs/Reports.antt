@@ -2,12 +2,12 @@
 use Prim.Native.Nat.{ℕ, zero, suc, _+_, _-_, _*_, _≤_, _<_}
 use mathlib.Core.Path.{_≡_, refl, sym, ap, ap₂, _∙_}
 use mathlib.Core.List.{List, [], _∷_, _++_, append-assoc, append-nil}
-use mathlib.Core.Bool.{Bool, true, false}
+use mathlib.Core.Bool.{true, false}
 use native.Mathlib.Omega.{arith}
 use borrow.Author.Tests.{le-leb, lt-leb}
 use lib.ListN.{length, set, take, length-append}
 use lib.Seq.{take-all}
-use Rattle.lists.specs.Cases.{pick, flag}
+use Rattle.lists.specs.Cases.{flag}
 use Rattle.lists.specs.Pieces.{joined, over}
 use Rattle.answers.specs.Answers.{numberOf, isAccepted}
 use Rattle.answers.specs.Trust.{sourceNumber, confidenceNumber}
@@ -23,14 +23,17 @@ use Rattle.frame.proofs.Fill.{front-take, over-one, over-join, over-pus
 use Rattle.frame.proofs.Spelling.{hexed-length, hex-yes}
 use Rattle.frame.proofs.Numbers.{big-length}
 
+pub line-size : (bytes : List ℕ) → length (lineOf bytes) ≡ length bytes + length bytes + 1
+unfolding lineOf
+line-size bytes = omega (arith, length-append (hexed bytes) (10 ∷ []), hexed-length bytes)
+
 -- the digits, and the newline behind them
 module _ (bytes out : List ℕ) (h : length bytes + length bytes + 1 ≤ length out) where
   pub line-digits : (n : ℕ) → n ≡ hexedNumber bytes out → n ≡ length bytes + length bytes
   line-digits n e = e ∙ sym (hex-yes bytes out (omega arith) .0)
 
   pub line-length : (n : ℕ) → n ≡ hexedNumber bytes out → n + 1 ≡ length (lineOf bytes)
-  unfolding lineOf
-  line-length n e = omega (arith, line-digits n e, length-append (hexed bytes) (10 ∷ []), hexed-length bytes)
+  line-length n e = omega (arith, line-digits n e, line-size bytes)
 
   pub line-put : (n : ℕ) (filled : List ℕ) → n ≡ hexedNumber bytes out → filled ≡ hexedInto bytes out → set filled n 10 ≡ over out 0 (lineOf bytes)
   unfolding lineOf
@@ -116,8 +119,8 @@ module _ (d : Decoding) where
     report-accepted t = (
       rw (le-leb 61 (length l) h, t) (ap suc (sym (length-append (bigBytes 8 page) (acceptedBytes d) ∙ omega (arith, big-length 8 page, accepted-length)))),
       rw (le-leb 61 (length l) h, t, ← e)
-      (ap (λ (x : List ℕ). over x 9 (acceptedBytes d)) head-put
-      ∙ over-join l 0 (answer ∷ bigBytes 8 page) (acceptedBytes d) 9 (omega (arith, big-length 8 page)) (omega (arith, big-length 8 page, accepted-length))),
+          (ap (λ (x : List ℕ). over x 9 (acceptedBytes d)) head-put
+          ∙ over-join l 0 (answer ∷ bigBytes 8 page) (acceptedBytes d) 9 (omega (arith, big-length 8 page)) (omega (arith, big-length 8 page, accepted-length))),
     )
 
     pub report-refused : isAccepted (d .choice .answer) ≡ false → (9 ≡ reportedNumber page d l) × (over (set l 0 answer) 1 (bigBytes 8 page) ≡ reportedInto page d l)

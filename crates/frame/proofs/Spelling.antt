@@ -1,14 +1,16 @@
 -- The bytes that digits spell, the digits of bytes, and the way there and back. Assumes nothing.
 use Prim.Native.Nat.{ℕ, zero, suc, _+_, _*_, _/_, _%_, _≤_, _<_}
-use mathlib.Core.Path.{_≡_, refl, sym, ap, ap₂, _∙_}
+use mathlib.Core.Path.{_≡_, refl, ap, ap₂, _∙_}
 use mathlib.Core.List.{List, [], _∷_}
 use native.Mathlib.Nat.{le-of-suc-le-suc, not-suc-le-zero}
 use native.Mathlib.Omega.{arith}
-use borrow.Author.Tests.{le-leb, lt-leb}
+use borrow.Author.Tests.{le-leb, lt-leb, eqb-true, eqb-false}
+use lib.Dec.{eqb}
 use lib.ListN.{length, getD, set, take}
 use lib.Seq.{ext-getD}
 use Rattle.lists.specs.Bytes.{byteAt}
 use Rattle.lists.specs.Pieces.{each, over}
+use Rattle.lists.proofs.Picks.{pick-case}
 use Rattle.lists.proofs.Each.{each-length, each-at, each-ext}
 use Rattle.frame.specs.Digits.{digitOf, worstOf, spelledAt, spelled, lowerDigit, hexed, hexedNumber, hexedInto, pairAt, Valued}
 use Rattle.frame.proofs.Fill.{front-more}
@@ -85,6 +87,21 @@ module _ (l : List ℕ) (bytes : (k : ℕ) → k < length l → getD l k 0 < 256
       let n : length (spelled (hexed l)) ≡ length l = spelled-length (hexed l) ∙ omega (arith, hexed-length l) in
       ext-getD 0 (spelled (hexed l)) l n
       (λ k h.
-        spelled-at (hexed l) k (omega (arith, hexed-length l))
-        ∙ ap₂ (λ (a b : ℕ). a * 16 + b) (high-back k (omega arith)) (low-back k (omega arith))
-        ∙ omega arith)
+      spelled-at (hexed l) k (omega (arith, hexed-length l))
+      ∙ ap₂ (λ (a b : ℕ). a * 16 + b) (high-back k (omega arith)) (low-back k (omega arith))
+      ∙ omega arith)
+
+  pub hexed-digits : worstOf (hexed l) < 16
+  hexed-digits =
+      let n : length (hexed l) ≡ length l + length l = hexed-length l in
+      worst-below (hexed l)
+      (λ k h.
+      pick-case (λ (x : ℕ). digitOf (byteAt (hexed l) k) < 16) (eqb (k % 2) 0) 0 0
+      (λ e.
+      let even : k % 2 ≡ 0 = eqb-true _ _ e in
+      let z : k / 2 + k / 2 ≡ k = omega arith in
+      omega (arith, ap (λ (j : ℕ). digitOf (byteAt (hexed l) j)) z, high-back (k / 2) (omega arith), bytes (k / 2) (omega arith)))
+      (λ e.
+      let odd : k % 2 ≡ 0 → ⊥ = eqb-false _ _ e in
+      let z : k / 2 + k / 2 + 1 ≡ k = omega arith in
+      omega (arith, ap (λ (j : ℕ). digitOf (byteAt (hexed l) j)) z, low-back (k / 2) (omega arith))))

@@ -1,11 +1,10 @@
 // Lines in blocks of input: where a line ends, and what is kept of one that goes on in the next block.
 ghost use mathlib.Core.Path.{_≡_};
-ghost use mathlib.Core.Bool.{Bool, false};
-ghost use Prim.Native.Nat.{ℕ, _+_, _≤_, _<_, min};
+ghost use mathlib.Core.Bool.{false};
+ghost use Prim.Native.Nat.{_+_, _≤_, _<_, min};
 ghost use lib.Dec.{eqb};
 ghost use lib.ListN.{length, take};
 ghost use Rattle.lists.specs.Cases.{flag};
-ghost use Rattle.lists.specs.Bytes.{byteAt};
 ghost use Rattle.lists.specs.Pieces.{over};
 ghost use Rattle.frame.specs.Lines.{lineEnd, fitting, Quiet};
 

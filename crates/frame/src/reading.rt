@@ -1,10 +1,8 @@
 // A frame: document 01, "page number (8 bytes, big-endian), option bits, T, n (a byte each), n anchors, 4,096 stored bytes".
 ghost use mathlib.Core.Path.{_≡_};
-ghost use mathlib.Core.Bool.{true};
 ghost use Prim.Native.Nat.{_+_, _*_, _≤_, _<_};
-ghost use lib.ListN.{length, take};
+ghost use lib.ListN.{length};
 ghost use Rattle.lists.specs.Bytes.{byteAt, fourBytes};
-ghost use Rattle.frame.specs.Numbers.{bigEndian};
 ghost use Rattle.frame.specs.Frames.{frameOf, frameIn, frameBytes, goodOf, pageNumber};
 use crate::digits::digit_values;
 use crate::digits::pair;
@@ -84,7 +82,10 @@ fn four(bytes: &[u8], at: usize) -> u64
     requires { ⌜ at + 4 ≤ length (now bytes) ⌝ }
     ensures { λ r. ⌜ (r ≡ fourBytes (byteAt (now (bytes .entry)) (at + 3)) (byteAt (now (bytes .entry)) (at + 2)) (byteAt (now (bytes .entry)) (at + 1)) (byteAt (now (bytes .entry)) at)) × (r < 4294967296) ⌝ }
 {
-    wide(bytes[at]) * 16777216 + wide(bytes[at + 1]) * 65536 + wide(bytes[at + 2]) * 256 + wide(bytes[at + 3])
+    wide(bytes[at]) * 16777216
+        + wide(bytes[at + 1]) * 65536
+        + wide(bytes[at + 2]) * 256
+        + wide(bytes[at + 3])
 }
 
 fn wide(b: u8) -> u64

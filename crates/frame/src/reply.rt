@@ -3,11 +3,10 @@ ghost use mathlib.Core.Path.{_≡_};
 ghost use Prim.Native.Nat.{_+_, _≤_};
 ghost use lib.ListN.{length};
 ghost use Rattle.lists.specs.Pieces.{over};
-ghost use Rattle.frame.specs.Report.{lineOf};
-ghost use Rattle.frame.specs.Frames.{anchorsOf, storedOf};
-ghost use Rattle.frame.specs.Report.{reportBytes};
-ghost use Rattle.frame.specs.Reply.{decoded, repliedInto, repliedNumber};
 ghost use Rattle.answers.specs.Settings.{optionsOf};
+ghost use Rattle.frame.specs.Frames.{anchorsOf, storedOf};
+ghost use Rattle.frame.specs.Report.{reportBytes, lineOf};
+ghost use Rattle.frame.specs.Reply.{decoded, repliedInto, repliedNumber};
 use crate::reading::Frame;
 use crate::reading::read_frame;
 use crate::writing::put_line;
@@ -51,7 +50,13 @@ fn decode_frame(page: u64, options: u8, t: u8, n: usize, bytes: &[u8]) -> Decodi
     let mut plain = page_room();
     let start = 11 + n;
     let end = 4107 + n;
-    decode_page(page, &bytes[start..end], &bytes[11..start], Options::new(options, t), &mut plain)
+    decode_page(
+        page,
+        &bytes[start..end],
+        &bytes[11..start],
+        Options::new(options, t),
+        &mut plain,
+    )
 }
 
 // Room for the plaintext, which a report leaves out. The contract gives the length alone.

@@ -1,6 +1,5 @@
 // A report line: the bytes that tell of a decoding, and their digits with a newline.
 ghost use mathlib.Core.Path.{_≡_};
-ghost use mathlib.Core.List.{_∷_, []};
 ghost use Prim.Native.Nat.{_+_, _*_, _≤_};
 ghost use lib.ListN.{length};
 ghost use Rattle.lists.specs.Cases.{flag};

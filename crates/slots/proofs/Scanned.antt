@@ -139,11 +139,11 @@ pub from-none : (lim : ℕ) (p : List ℕ) → noScan ≡ bestFrom lim p lim (li
 unfolding bestFrom
 from-none lim p = let e : lim - lim ≡ 0 = omega arith in rw e refl
 
-pub from-more : (lim : ℕ) (p : List ℕ) (s : ℕ) (b c r : Scan) → s < lim → b ≡ bestFrom lim p (s + 1) (lim - (s + 1)) → c ≡ scanFrom lim p s → r ≡ stronger c b → r ≡ bestFrom lim p s (lim - s)
+pub from-more : (lim : ℕ) (p : List ℕ) (s : ℕ) → s < lim → stronger (scanFrom lim p s) (bestFrom lim p (s + 1) (lim - (s + 1))) ≡ bestFrom lim p s (lim - s)
 unfolding bestFrom
-from-more lim p s b c r h eb ec er =
+from-more lim p s h =
     let n : lim - s ≡ suc (lim - (s + 1)) = omega arith in
-    er ∙ ap (λ (x : Scan). stronger x b) ec ∙ ap (stronger (scanFrom lim p s)) eb ∙ sym (ap (bestFrom lim p s) n)
+    sym (ap (bestFrom lim p s) n)
 
 pub from-start : (lim : ℕ) (p : List ℕ) (b : Scan) → b ≡ bestFrom lim p 0 (lim - 0) → directoryOf b ≡ scannedDirectory lim p
 unfolding scannedDirectory bestOf

@@ -2,6 +2,7 @@
 use Prim.Native.Nat.{ℕ, zero, suc, _+_, _-_, _*_, _≤_, _<_}
 use mathlib.Core.Path.{_≡_, refl, sym, ap, _∙_, subst}
 use mathlib.Core.List.{List, [], _∷_}
+use mathlib.Core.Logic.{_⊎_, inl, inr}
 use mathlib.Core.Bool.{Bool, true, false, _&&_, and-false}
 use native.Mathlib.Omega.{arith}
 use native.Mathlib.Nat.{not-suc-le-zero}
@@ -10,13 +11,14 @@ use lib.ListN.{length}
 use lib.Dec.{ltb, leb, eqb}
 use borrow.Author.Tests.{eq-eqb, ne-eqb, lt-ltb, le-ltb, le-leb, lt-leb, leb-true, leb-false, ltb-true, eqb-true, eqb-false}
 use Rattle.lists.specs.Cases.{pick}
+use Rattle.lists.proofs.Picks.{pick-le}
 use Rattle.lists.specs.Bytes.{pairAt}
 use Rattle.slots.specs.Slots.{isOffset, wordsFrom, falling, opening, slotsAt, ontoTrimmed, trim, liveOf, arrayStart, scanAt, scanFrom, stronger, noScan, directoryOf, scannedDirectory}
-use Rattle.slots.specs.Sweep.{noTail, joinedBy, joined, tailOf, emptyScan, scanOf}
+use Rattle.slots.specs.Sweep.{noTail, joinedBy, joined, tailOf, emptyScan, scanOf, keptOf}
 use Rattle.slots.specs.declared.scans.Scan.{Scan}
 use Rattle.slots.specs.declared.scans.Tail.{Tail}
 use Rattle.slots.proofs.Words.{words-step, words-here, words-end, words-fit, offset-low, offset-high, offset-pos}
-use Rattle.slots.proofs.Scanned.{start-near, start-live, start-skips, start-stays, more-live, bestFrom, from-none, from-more, from-start}
+use Rattle.slots.proofs.Scanned.{start-near, start-live, start-skips, start-stays, More, Not-more, decide, strong-more, strong-not, strong-empty, bestFrom, from-none, from-more, from-start}
 
 -- the tail after one more pair, by the tests in their order
 module _ (w : ℕ) (t : Tail) where
@@ -162,15 +164,15 @@ joined-offset w t o = rw (o, ne-eqb w 0 (offset-pos w o)) (go (ltb (t .value) w)
 
 -- the scan of a tail, by the tests in their order
 module _ (s : ℕ) (t : Tail) where
-  pub scan-dead : t .live ≡ 0 → emptyScan s ≡ scanOf s t
+  scan-dead : t .live ≡ 0 → emptyScan s ≡ scanOf s t
   unfolding scanOf
   scan-dead z = rw (lt-leb 1 (t .live) (omega arith)) refl
 
-  pub scan-far : 1 < t .gap → emptyScan s ≡ scanOf s t
+  scan-far : 1 < t .gap → emptyScan s ≡ scanOf s t
   unfolding scanOf
   scan-far h = rw (lt-leb (t .gap) 1 h, and-false) refl
 
-  pub scan-is : (t .live ≡ 0 → ⊥) → t .gap ≤ 1 → record { start = s + 2 * t .gap; slots = t .slots; live = t .live } ≡ scanOf s t
+  scan-is : (t .live ≡ 0 → ⊥) → t .gap ≤ 1 → record { start = s + 2 * t .gap; slots = t .slots; live = t .live } ≡ scanOf s t
   unfolding scanOf
   scan-is n h = rw (le-leb 1 (t .live) (omega (arith, n)), le-leb (t .gap) 1 h) refl
 
@@ -182,8 +184,20 @@ module _ (s : ℕ) (t : Tail) where
       go true = omega arith
       go false = omega arith
 
-  pub kept-best : (best : Scan) → t .live < best .live → best ≡ stronger (scanOf s t) best
-  kept-best best h = more-live (scanOf s t) best (omega (arith, scan-live))
+  -- which scans are kept
+  pub kept-few : (best : Scan) → t .live < 4 → best ≡ keptOf (scanOf s t) best
+  unfolding keptOf
+  kept-few best h = rw (lt-leb 4 (scanOf s t .live) (omega (arith, scan-live))) refl
+
+  pub kept-far : (best : Scan) → 1 < t .gap → best ≡ keptOf (scanOf s t) best
+  unfolding keptOf
+  kept-far best h = ap (λ (x : Scan). pick (leb 4 (x .live)) (stronger x best) best) (scan-far h)
+
+  pub kept-run : (best r : Scan) → 4 ≤ t .live → t .gap ≤ 1 → r ≡ stronger (record { start = s + 2 * t .gap; slots = t .slots; live = t .live }) best → r ≡ keptOf (scanOf s t) best
+  unfolding keptOf
+  kept-run best r h k e =
+      let run : Scan = record { start = s + 2 * t .gap; slots = t .slots; live = t .live } in
+      e ∙ pick-le (stronger run best) best 4 (t .live) h ∙ ap (λ (x : Scan). pick (leb 4 (x .live)) (stronger x best) best) (scan-is (λ z. omega arith) k)
 
 scan-eq : {a b c a′ b′ c′ : ℕ} → a ≡ a′ → b ≡ b′ → c ≡ c′ → _≡_ {A = Scan} (record { start = a; slots = b; live = c }) (record { start = a′; slots = b′; live = c′ })
 scan-eq p q r = λ i. record { start = p i; slots = q i; live = r i }
@@ -313,19 +327,63 @@ pub tail-more : (lim : ℕ) (p : List ℕ) (s w : ℕ) (next r : Tail) → lim �
 unfolding tailOf
 tail-more lim p s w next r le h e f g = g ∙ ap (joined w) f ∙ sym (ap tailOf (words-here lim p s le w h e))
 
+-- a scan of fewer than four live slots counts as none
+pub counting : Scan → Scan
+counting b = pick (leb 4 (b .live)) b noScan
+
+counting-none : noScan ≡ counting noScan
+unfolding counting
+counting-none = refl
+
+counting-few : (b : Scan) → b .live < 4 → counting b ≡ noScan
+unfolding counting
+counting-few b h = rw (lt-leb 4 (b .live) h) refl
+
+counting-four : (b : Scan) → 4 ≤ b .live → counting b ≡ b
+unfolding counting
+counting-four b h = rw (le-leb 4 (b .live) h) refl
+
+counting-directory : (b : Scan) → directoryOf (counting b) ≡ directoryOf b
+unfolding directoryOf
+counting-directory b = go (leb 4 (b .live)) refl
+  where
+    go : (t : Bool) → leb 4 (b .live) ≡ t → directoryOf (counting b) ≡ directoryOf b
+    go true q = ap directoryOf (counting-four b (leb-true 4 (b .live) q))
+    go false q = ap directoryOf (counting-few b (leb-false 4 (b .live) q)) ∙ rw q refl
+
+kept-counting : (c b : Scan) → keptOf c (counting b) ≡ counting (stronger c b)
+unfolding keptOf
+kept-counting c b = go (leb 4 (c .live)) refl (leb 4 (b .live)) refl (decide c b)
+  where
+    go : (x : Bool) → leb 4 (c .live) ≡ x → (y : Bool) → leb 4 (b .live) ≡ y → More c b ⊎ Not-more c b → pick x (stronger c (counting b)) (counting b) ≡ counting (stronger c b)
+    go true qx true qy (inl m) = let h : 4 ≤ b .live = leb-true 4 (b .live) qy in ap (stronger c) (counting-four b h) ∙ strong-more c b m ∙ sym (ap counting (strong-more c b m) ∙ counting-four b h)
+    go true qx true qy (inr m) =
+        ap (stronger c) (counting-four b (leb-true 4 (b .live) qy)) ∙ strong-not c b m ∙ sym (ap counting (strong-not c b m) ∙ counting-four c (leb-true 4 (c .live) qx))
+    go true qx false qy d =
+        let h : 4 ≤ c .live = leb-true 4 (c .live) qx in
+        let l : b .live < 4 = leb-false 4 (b .live) qy in
+        ap (stronger c) (counting-few b l) ∙ strong-empty c noScan refl refl ∙ sym (ap counting (strong-not c b (inl (omega arith))) ∙ counting-four c h)
+    go false qx true qy d =
+        let h : 4 ≤ b .live = leb-true 4 (b .live) qy in
+        let l : c .live < 4 = leb-false 4 (c .live) qx in
+        ap counting (sym (strong-more c b (inl (omega arith))))
+    go false qx false qy (inl m) = ap counting (sym (strong-more c b m))
+    go false qx false qy (inr m) =
+        counting-few b (leb-false 4 (b .live) qy) ∙ sym (ap counting (strong-not c b m) ∙ counting-few c (leb-false 4 (c .live) qx))
+
 -- what holds when the pass has come down to s: the tails at s and s + 1, and the best scan of the starts from s on
 pub record Swept (lim : ℕ) (p : List ℕ) (s : ℕ) (near far : Tail) (best : Scan) : Type 0 where
   pub within : s ≤ lim
   pub near-is : near ≡ tailOf (wordsFrom lim p s)
   pub far-is : far ≡ tailOf (wordsFrom lim p (s + 1))
-  pub best-is : best ≡ bestFrom lim p s (lim - s)
+  pub best-is : best ≡ counting (bestFrom lim p s (lim - s))
 
 pub swept-none : (lim : ℕ) (p : List ℕ) (near far : Tail) → near ≡ noTail → far ≡ noTail → Swept lim p lim near far noScan
 swept-none lim p near far e f = record {
   within = omega arith;
   near-is = e ∙ tail-end lim p lim (omega arith);
   far-is = f ∙ tail-end lim p (lim + 1) (omega arith);
-  best-is = from-none lim p;
+  best-is = counting-none ∙ ap counting (from-none lim p);
 }
 
 module _ (lim : ℕ) (p : List ℕ) (s r : ℕ) (near far : Tail) (best : Scan) (g : Swept lim p s near far best) (one : s ≡ r + 1) where
@@ -333,15 +391,16 @@ module _ (lim : ℕ) (p : List ℕ) (s r : ℕ) (near far : Tail) (best : Scan) 
   pub swept-next : far ≡ tailOf (wordsFrom lim p (r + 2))
   swept-next = let e : s + 1 ≡ r + 2 = omega arith in g .far-is ∙ ap (λ (k : ℕ). tailOf (wordsFrom lim p k)) e
 
-  pub swept-more : (t : Tail) (b : Scan) → lim ≤ length p → t ≡ tailOf (wordsFrom lim p r) → b ≡ stronger (scanOf r t) best → Swept lim p r t near b
+  pub swept-more : (t : Tail) (b : Scan) → lim ≤ length p → t ≡ tailOf (wordsFrom lim p r) → b ≡ keptOf (scanOf r t) best → Swept lim p r t near b
   swept-more t b le e q = record {
     within = omega (arith, g .within);
     near-is = e;
     far-is = g .near-is ∙ ap (λ (k : ℕ). tailOf (wordsFrom lim p k)) one;
     best-is =
-        from-more lim p r best (scanOf r t) b (omega (arith, g .within)) (g .best-is ∙ ap (λ (k : ℕ). bestFrom lim p k (lim - k)) one)
-        (ap (scanOf r) e ∙ sym (scan-tail lim p r le)) q;
+        q ∙ ap (λ (x : Scan). keptOf x best) (ap (scanOf r) e ∙ sym (scan-tail lim p r le)) ∙ ap (keptOf (scanFrom lim p r)) (g .best-is ∙ ap (λ (k : ℕ). counting (bestFrom lim p k (lim - k))) one)
+        ∙ kept-counting (scanFrom lim p r) (bestFrom lim p (r + 1) (lim - (r + 1))) ∙ ap counting (from-more lim p r (omega (arith, g .within)));
   }
 
 pub swept-all : (lim : ℕ) (p : List ℕ) (s : ℕ) (near far : Tail) (best : Scan) → Swept lim p s near far best → s ≡ 0 → directoryOf best ≡ scannedDirectory lim p
-swept-all lim p s near far best g z = from-start lim p best (g .best-is ∙ ap (λ (k : ℕ). bestFrom lim p k (lim - k)) z)
+swept-all lim p s near far best g z =
+    ap directoryOf (g .best-is ∙ ap (λ (k : ℕ). counting (bestFrom lim p k (lim - k))) z) ∙ counting-directory (bestFrom lim p 0 (lim - 0)) ∙ from-start lim p (bestFrom lim p 0 (lim - 0)) refl

@@ -5,7 +5,7 @@ use mathlib.Core.Bool.{Bool, true, false, _&&_, _||_}
 use lib.Dec.{ltb, leb, eqb}
 use Rattle.lists.specs.Cases.{pick}
 use Rattle.lists.specs.Bytes.{byteAt}
-use Rattle.slots.specs.Slots.{isOffset}
+use Rattle.slots.specs.Slots.{isOffset, stronger}
 use Rattle.slots.specs.declared.scans.Scan.{Scan}
 use Rattle.slots.specs.declared.scans.Tail.{Tail}
 
@@ -34,6 +34,10 @@ emptyScan s = record { start = s; slots = 0; live = 0 }
 
 unfoldable pub scanOf : ℕ → Tail → Scan
 scanOf s t = pick (leb 1 (t .live) && leb (t .gap) 1) (record { start = s + 2 * t .gap; slots = t .slots; live = t .live }) (emptyScan s)
+
+-- the better of the scan from a start and the best of the later ones, if it has four live slots
+unfoldable pub keptOf : Scan → Scan → Scan
+keptOf b best = pick (leb 4 (b .live)) (stronger b best) best
 
 -- a and then b at one of the positions 0, .., n - 1: what the row-count test looks for before it scans
 unfoldable pub hasPair : ℕ → ℕ → List ℕ → ℕ → Bool

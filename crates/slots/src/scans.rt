@@ -6,7 +6,7 @@ ghost use Prim.Native.Nat.{ℕ, _+_, _*_, _<_, _≤_};
 ghost use lib.ListN.{length};
 ghost use Rattle.lists.specs.Bytes.{plainOf};
 ghost use Rattle.slots.specs.Slots.{wordsFrom, stronger, directoryOf, scannedDirectory};
-ghost use Rattle.slots.specs.Sweep.{noTail, joined, tailOf, scanOf};
+ghost use Rattle.slots.specs.Sweep.{noTail, joined, tailOf, scanOf, keptOf};
 
 // What a scan finds: where its array starts, its slots without trailing zeros, and how many of them are live. It ends at start + 2 * slots.
 pub struct Scan {
@@ -134,44 +134,27 @@ fn join(w: usize, t: Tail) -> Tail
     }
 }
 
-// The better of the scan from s and the best of the later ones. Most starts end at the first test.
+// The better of the scan from s and the best of the later ones. One zero pair before the array is skipped, and a scan of fewer than four
+// live slots is left out at once: most starts end there.
 fn kept(s: usize, t: Tail, best: Scan) -> Scan
     requires { ⌜ s < 9223372036854775808 ⌝ }
-    ensures { λ r. ⌜ r ≡ stronger (scanOf s t) best ⌝ }
-{
-    if t.live < best.live {
-        return best;
-    }
-    better(scan_of(s, t), best)
-}
-
-// The scan from s, of the tail at s: one zero pair before the array is skipped.
-fn scan_of(s: usize, t: Tail) -> Scan
-    requires { ⌜ s < 9223372036854775808 ⌝ }
-    ensures { λ r. ⌜ r ≡ scanOf s t ⌝ }
+    ensures { λ r. ⌜ r ≡ keptOf (scanOf s t) best ⌝ }
 {
     let gap = t.gap;
     let slots = t.slots;
     let live = t.live;
-    if live == 0 {
-        return Scan {
-            start: s,
-            slots: 0,
-            live: 0,
-        };
+    if live < 4 {
+        return best;
     }
     if 1 < gap {
-        return Scan {
-            start: s,
-            slots: 0,
-            live: 0,
-        };
+        return best;
     }
-    Scan {
+    let scan = Scan {
         start: s + 2 * gap,
         slots,
         live,
-    }
+    };
+    better(scan, best)
 }
 
 // The better of two scans, the earlier one, b, where they are as good.

@@ -1,5 +1,5 @@
 -- What the parse and the rows come to: at most three warnings; rows that follow one another without a gap up to 0xFF0; and a directory that
--- fits its table. Assumes nothing.
+-- fits its table; the numbers of the answers. Assumes nothing.
 use Prim.Native.Nat.{ℕ, zero, suc, _+_, _-_, _≤_, _<_}
 use mathlib.Core.Path.{_≡_, refl}
 use mathlib.Core.List.{List, [], _∷_}
@@ -8,13 +8,19 @@ use native.Mathlib.Omega.{arith}
 use lib.Dec.{eqb, leb}
 use lib.ListN.{length, set}
 use Rattle.lists.specs.Cases.{pick}
+use Rattle.lists.specs.Counts.{isIn}
+use Rattle.lists.proofs.Picks.{pick-case}
+use Rattle.answers.specs.Answers.{numberOf, isAccepted}
+use Rattle.answers.specs.declared.kinds.Answer.{Answer}
 use Rattle.answers.specs.Warns.{warningNumber, noParseWarnings, withParseWarning}
 use Rattle.answers.specs.declared.notices.WarningKind.{WarningKind}
 use Rattle.answers.specs.declared.notices.ParseWarnings.{ParseWarnings}
 use Rattle.slotted.specs.Rows.{rowIn}
-use Rattle.slotted.specs.Decisions.{decisionOf}
+use Rattle.slotted.specs.Decisions.{answerOf, decisionOf}
 use Rattle.slotted.specs.Parses.{warned, parsedOf}
-use Rattle.slotted.specs.RowAnswers.{rowsOf, rowOf}
+use Rattle.slotted.specs.RowAnswers.{rowsIn, rowsOf, rowOf, spanAnswer, rowAnswerOf}
+use Rattle.slotted.specs.declared.verdicts.Verdict.{Verdict}
+use Rattle.slotted.specs.declared.verdicts.Verdict.the-variants as verdict
 use Rattle.slotted.specs.declared.verdicts.Decided.{Decided}
 use Rattle.slotted.specs.declared.spans.Span.{Span}
 use Rattle.slotted.specs.declared.spans.Span.the-variants.{At, NoRow}
@@ -64,3 +70,47 @@ unfolding rowIn
 row-there r [] = ((λ h q. omega arith), λ h. no-rows r)
 row-there zero (x ∷ l) = ((λ h q. let z : _≡_ {A = ℕ} 0 1 = cc in omega arith), λ h. absurd (omega arith))
 row-there (suc r) (x ∷ l) = let i = row-there r l in ((λ h q. i .0 (omega arith) q), λ h. i .1 (omega arith))
+
+-- ---- the numbers of the answers
+
+verdict-in :
+    (ns : List ℕ) (page : ℕ) (v : Verdict)
+    → isIn 0 ns ≡ true
+    → isIn 1 ns ≡ true
+    → isIn 8 ns ≡ true
+    → isIn 9 ns ≡ true
+    → isIn 10 ns ≡ true
+    → isIn 11 ns ≡ true
+    → isIn 12 ns ≡ true
+    → isIn (numberOf (answerOf page v)) ns ≡ true
+verdict-in ns page verdict.Accepted a b c d e f g = a
+verdict-in ns page (verdict.WrongLength n) a b c d e f g = b
+verdict-in ns page (verdict.NoDirectory reason) a b c d e f g = c
+verdict-in ns page verdict.NoPrelude a b c d e f g = d
+verdict-in ns page (verdict.Truncated found expected stop) a b c d e f g = e
+verdict-in ns page verdict.Ambiguous a b c d e f g = f
+verdict-in ns page (verdict.OffsetInside offset end) a b c d e f g = g
+
+-- a parse gives 0, 1 or 8 to 12
+pub parse-number : (lim page : ℕ) (p : List ℕ) (lenient : Bool) → isIn (numberOf (parsedOf lim page p lenient .answer)) (0 ∷ 1 ∷ 8 ∷ 9 ∷ 10 ∷ 11 ∷ 12 ∷ []) ≡ true
+unfolding parsedOf isIn
+parse-number lim page p lenient =
+    verdict-in (0 ∷ 1 ∷ 8 ∷ 9 ∷ 10 ∷ 11 ∷ 12 ∷ []) page (decisionOf lim p lenient .verdict) refl refl refl refl refl refl refl
+
+-- asking for a row gives those or 16
+abbrev rowNumbers : List ℕ
+rowNumbers = 0 ∷ 1 ∷ 8 ∷ 9 ∷ 10 ∷ 11 ∷ 12 ∷ 16 ∷ []
+
+span-number : (r : ℕ) (s : Span) → isIn (numberOf (spanAnswer r s)) rowNumbers ≡ true
+unfolding isIn
+span-number r (At o e) = refl
+span-number r NoRow = refl
+
+pub row-number : (lim page : ℕ) (p : List ℕ) (lenient : Bool) (r : ℕ) → isIn (numberOf (rowAnswerOf lim page p lenient r)) (0 ∷ 1 ∷ 8 ∷ 9 ∷ 10 ∷ 11 ∷ 12 ∷ 16 ∷ []) ≡ true
+unfolding rowAnswerOf isIn
+row-number lim page p lenient r =
+    let v : Verdict = decisionOf lim p lenient .verdict in
+    let x : Answer = answerOf page v in
+    pick-case (λ (a : Answer). isIn (numberOf a) rowNumbers ≡ true) (isAccepted x) (spanAnswer r (rowIn r (rowsIn p (decisionOf lim p lenient .listed)))) x
+    (λ e. span-number r (rowIn r (rowsIn p (decisionOf lim p lenient .listed))))
+    (λ e. verdict-in rowNumbers page v refl refl refl refl refl refl refl)

@@ -1,3 +1,4 @@
+-- A case of the verdict to each return. Assumes nothing.
 use mathlib.Core.Path.{sym, _∙_}
 use borrow.Author.Tests.{not-true, not-false}
 use Rattle.decode.proofs.Cases.{verdict-good, verdict-refused, verdict-warned}

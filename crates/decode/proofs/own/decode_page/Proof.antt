@@ -1,3 +1,4 @@
+-- What was scanned, or left out, decodes as the page's own summary does. Assumes nothing.
 use Rattle.decode.specs.declared.Decoding.{Decoding}
 use mathlib.Core.Path.{sym, _∙_}
 use Prim.Native.Nat.{ℕ}

@@ -1,3 +1,4 @@
+-- What was scanned, or left out, decodes as the page's own summary does. Assumes nothing.
 use mathlib.Core.Bool.{true}
 use Rattle.lists.proofs.Picks.{never-both}
 use Rattle.decode.specs.declared.Decoding.{Decoding}

@@ -1,3 +1,4 @@
+-- The answer on integrity decides, then the leniency. Assumes nothing.
 use mathlib.Core.Path.{sym, ap, _∙_}
 use Rattle.lists.proofs.Picks.{pick-true, pick-false}
 use Rattle.answers.specs.Answers.{isAccepted}

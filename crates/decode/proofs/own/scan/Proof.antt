@@ -1,3 +1,4 @@
+-- A law to each test; where all pass, the scan is the page's summary. Assumes nothing.
 use mathlib.Core.Path.{sym, ap, _∙_}
 use borrow.Author.Tests.{not-true, not-false}
 use denote.Ref.{now}

@@ -1,3 +1,4 @@
+-- The two parts that are written make the plain page. Assumes nothing.
 use Prim.Native.Nat.{ℕ}
 use mathlib.Core.List.{List, _++_}
 use denote.Ref.{now}

@@ -1,3 +1,4 @@
+-- What its callees ensure, put together. Assumes nothing.
 use mathlib.Core.Path.{_∙_}
 use borrow.Author.Needs.{needs}
 use Rattle.decode.proofs.results.refused.Statement.{statement}

@@ -1,3 +1,4 @@
+-- What its callees ensure, put together. Assumes nothing.
 use borrow.Author.Needs.{needs}
 use Rattle.decode.proofs.results.refused_with.Statement.{statement}
 use Rattle.decode.proofs.results.refused_with.Tie as tie

@@ -1,3 +1,4 @@
+-- What its callees ensure, put together. Assumes nothing.
 use Rattle.decode.specs.Decode.{unallocatedOf}
 use borrow.Author.Needs.{needs}
 use Rattle.decode.proofs.results.unallocated.Statement.{statement}

@@ -1,3 +1,4 @@
+-- The loop's invariant: the first s sectors are confident. Assumes nothing.
 use borrow.Author.Needs.{needs}
 use Prim.Native.Nat.{_-_, _≤_}
 use mathlib.Core.Path.{sym, _∙_}

@@ -1,3 +1,4 @@
+-- The warning's number says whether there is one. Assumes nothing.
 use Prim.Native.Nat.{ℕ}
 use lib.Dec.{eqb}
 use borrow.Author.Tests.{eq-eqb, ne-eqb}

@@ -1,3 +1,4 @@
+-- The loop's invariant: the first s fits have the exactness of the shifted bytes. Assumes nothing.
 use borrow.Author.Needs.{needs}
 use Prim.Native.Nat.{_+_, _-_, _≤_}
 use mathlib.Core.Path.{_≡_, sym, ap, _∙_}

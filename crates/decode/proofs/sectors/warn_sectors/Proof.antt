@@ -1,3 +1,4 @@
+-- The loop's invariant: the warnings are those of the first s sectors. Assumes nothing.
 use borrow.Author.Needs.{needs}
 use Prim.Native.Nat.{_-_, _≤_}
 use mathlib.Core.Path.{_≡_, sym, ap, _∙_}

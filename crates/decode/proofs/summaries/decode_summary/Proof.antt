@@ -1,3 +1,4 @@
+-- A law to each test; then the verdict, and what was delivered. Assumes nothing.
 use mathlib.Core.Path.{refl, sym, _∙_}
 use denote.Ref.{now}
 use lib.ListN.{length}

@@ -3,9 +3,6 @@ use borrow.Author.Needs.{needs}
 use Rattle.frame.proofs.Values.{digit-decimal, digit-upper, digit-lower, digit-none}
 use Rattle.frame.proofs.digits.digit_value.Statement.{statement}
 use Rattle.frame.proofs.digits.digit_value.Tie as tie
-use Rattle.frame.proofs.digits.digit_value.Reads as reads
-use Rattle.frame.proofs.digits.digit_value.Lts as lts
-use Rattle.std.proofs.num.wrapping_sub_u8.Reads as wrapping-sub-u8-reads
 
 wrapping-sub-u8-requires : tie.Need-wrapping-sub-u8-requires
 wrapping-sub-u8-requires c κs = search needs

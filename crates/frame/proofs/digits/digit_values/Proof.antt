@@ -1,6 +1,6 @@
 -- `digit_values` meets its contract: the values so far, and the greatest of them.
 use borrow.Author.Needs.{needs}
-use Prim.Native.Nat.{ℕ, _≤_, _-_, _+_}
+use Prim.Native.Nat.{ℕ, _≤_, _-_}
 use mathlib.Core.Path.{_≡_, refl, sym, ap, _∙_}
 use mathlib.Core.Logic.{⊎-elim}
 use native.Mathlib.Omega.{arith}
@@ -13,9 +13,6 @@ use Rattle.frame.proofs.Values.{valued-none, valued-more}
 use mathlib.Core.Path.{subst}
 use Rattle.frame.proofs.digits.digit_values.Statement.{statement}
 use Rattle.frame.proofs.digits.digit_values.Tie as tie
-use Rattle.frame.proofs.digits.digit_values.Reads as reads
-use Rattle.frame.proofs.digits.digit_values.Lts as lts
-use Rattle.frame.proofs.digits.digit_value.Reads as digit-value-reads
 
 abbrev Inv-loop : tie.InvT-loop
 Inv-loop line values₀ worst₀ i₀ values worst i = (i ≤ length line) × (length values ≡ length values₀) × (worst ≡ greatest (λ k. digitOf (byteAt line k)) i) × Valued line values i
@@ -42,14 +39,13 @@ loop-less : tie.Need-loop-less Inv-loop μ-loop
 loop-less c = search needs
 
 loop-again : tie.Need-loop-again Inv-loop μ-loop
-loop-again c = 
+loop-again c =
     let l = c .before .before .before .before .loop in
     let a = c .before .before .before .before .before .before .before .args in
     let v = c .before .digit-value in
     let f : ℕ → ℕ = λ k. digitOf (byteAt (a .line .now) k) in
     let k = l .inv .1 in
-    let e : v .result ≡ f (l .i) = v .ensures in
-    (
+    let e : v .result ≡ f (l .i) = v .ensures in (
       omega arith,
       simp length-set k,
       ⊎-elim (λ w. w .1 ∙ e ∙ greatest-up f (l .i) (l .worst) (l .inv .2) (omega arith)) (λ w. w .1 ∙ greatest-same f (l .i) (l .worst) (l .inv .2) (omega arith)) (c .if1 .came),
@@ -61,7 +57,7 @@ same-length c = search needs
 
 returns : tie.Need-returns Inv-loop μ-loop
 unfolding worstOf
-returns c = 
+returns c =
     let l = c .before .loop in
     let a = c .before .before .before .before .args in
     let e : l .i ≡ length (a .line .now) = omega arith in

@@ -4,8 +4,6 @@ use borrow.Author.Tests.{lt-ltb, le-ltb}
 use native.Mathlib.Omega.{arith}
 use Rattle.frame.proofs.digits.lower_digit.Statement.{statement}
 use Rattle.frame.proofs.digits.lower_digit.Tie as tie
-use Rattle.frame.proofs.digits.lower_digit.Reads as reads
-use Rattle.frame.proofs.digits.lower_digit.Lts as lts
 
 add-result : tie.Need-add-result
 add-result c = search needs

@@ -1,11 +1,8 @@
 -- `pair` meets its contract: two values below 16 keep apart in the product.
 use borrow.Author.Needs.{needs}
-use native.Mathlib.Omega.{arith}
 use Rattle.frame.proofs.Values.{pair-of}
 use Rattle.frame.proofs.digits.pair.Statement.{statement}
 use Rattle.frame.proofs.digits.pair.Tie as tie
-use Rattle.frame.proofs.digits.pair.Reads as reads
-use Rattle.frame.proofs.digits.pair.Lts as lts
 
 mul-both : tie.Need-mul-both
 mul-both c = search needs

@@ -1,7 +1,7 @@
 -- `pair_up` meets its contract: what was paired stands at the front.
 use borrow.Author.Needs.{needs}
-use Prim.Native.Nat.{ℕ, _≤_, _-_, _+_}
-use mathlib.Core.Path.{_≡_, refl, sym, ap, _∙_}
+use Prim.Native.Nat.{_≤_, _-_, _+_}
+use mathlib.Core.Path.{_≡_, refl, _∙_}
 use native.Mathlib.Omega.{arith}
 use lib.ListN.{length, take, length-set}
 use Rattle.lists.specs.Pieces.{each, over}
@@ -10,9 +10,6 @@ use Rattle.frame.specs.Digits.{pairAt}
 use Rattle.frame.proofs.Fill.{over-none, front-more, over-all}
 use Rattle.frame.proofs.digits.pair_up.Statement.{statement}
 use Rattle.frame.proofs.digits.pair_up.Tie as tie
-use Rattle.frame.proofs.digits.pair_up.Reads as reads
-use Rattle.frame.proofs.digits.pair_up.Lts as lts
-use Rattle.frame.proofs.digits.pair.Reads as pair-reads
 
 abbrev Inv-loop : tie.InvT-loop
 Inv-loop values n bytes₀ i₀ bytes i = (i ≤ n) × (length bytes ≡ length bytes₀) × (bytes ≡ over bytes₀ 0 (take i (each (pairAt values) n)))
@@ -21,7 +18,7 @@ abbrev μ-loop : tie.MeasureT-loop
 μ-loop values n bytes₀ i₀ bytes i = n - i
 
 loop-holds : tie.Need-loop-holds Inv-loop μ-loop
-loop-holds c = 
+loop-holds c =
     let a = c .before .before .args in
     (omega arith, refl, over-none (a .bytes .now) (each (pairAt (a .values .now)) (a .n)) 0)
 
@@ -41,7 +38,7 @@ shared-slice-read-pair-2 : tie.Need-shared-slice-read-pair-2 Inv-loop μ-loop
 shared-slice-read-pair-2 c = search needs
 
 pair-requires : tie.Need-pair-requires Inv-loop μ-loop
-pair-requires c κs = 
+pair-requires c κs =
     let i = c .before .before .before .loop .i in
     let a = c .before .before .before .before .before .before in
     (a .pre .2 .below (i + i) (omega arith), a .pre .2 .below (i + i + 1) (omega arith))
@@ -56,13 +53,12 @@ loop-less : tie.Need-loop-less Inv-loop μ-loop
 loop-less c = search needs
 
 loop-again : tie.Need-loop-again Inv-loop μ-loop
-loop-again c = 
+loop-again c =
     let l = c .before .before .before .before .loop in
     let a = c .before .before .before .before .before .before .before .args in
     let src = each (pairAt (a .values .now)) (a .n) in
     let n : length src ≡ a .n = each-length (pairAt (a .values .now)) (a .n) in
-    let k = l .inv .1 in
-    (
+    let k = l .inv .1 in (
       omega arith,
       simp length-set k,
       rw (l .inv .2, c .pair .ensures, ← each-at (pairAt (a .values .now)) (a .n) (l .i) 0 (omega arith)) (front-more (a .bytes .now) src (l .i) (omega arith) (omega arith)),
@@ -72,7 +68,7 @@ same-length : tie.Need-same-length Inv-loop μ-loop
 same-length c = search needs
 
 returns : tie.Need-returns Inv-loop μ-loop
-returns c = 
+returns c =
     let l = c .before .loop in
     let a = c .before .before .before .before .args in
     l .inv .2 ∙ over-all (a .bytes .now) (each (pairAt (a .values .now)) (a .n)) 0 (l .i) (omega (arith, each-length (pairAt (a .values .now)) (a .n)))

@@ -1,19 +1,16 @@
 -- `put_digits` meets its contract: the digits of the bytes passed stand at the front.
 use borrow.Author.Needs.{needs}
-use Prim.Native.Nat.{ℕ, _≤_, _-_, _+_}
-use mathlib.Core.Path.{_≡_, refl, sym, ap, _∙_}
+use Prim.Native.Nat.{_≤_, _-_, _+_}
+use mathlib.Core.Path.{_≡_, refl, _∙_}
 use native.Mathlib.Omega.{arith}
 use lib.ListN.{length, take, length-set}
 use Rattle.lists.specs.Pieces.{over}
 use Rattle.frame.specs.Digits.{hexed}
-use Rattle.frame.proofs.Fill.{over-none, front-more, over-all}
-use Rattle.frame.proofs.Spelling.{hexed-length, hexed-high, hexed-low}
+use Rattle.frame.proofs.Fill.{over-none, over-all}
+use Rattle.frame.proofs.Spelling.{hexed-length}
 use Rattle.frame.proofs.Spelling.{hexed-more}
 use Rattle.frame.proofs.digits.put_digits.Statement.{statement}
 use Rattle.frame.proofs.digits.put_digits.Tie as tie
-use Rattle.frame.proofs.digits.put_digits.Reads as reads
-use Rattle.frame.proofs.digits.put_digits.Lts as lts
-use Rattle.frame.proofs.digits.lower_digit.Reads as lower-digit-reads
 
 abbrev Inv-loop : tie.InvT-loop
 Inv-loop bytes out₀ i₀ out i = (i ≤ length bytes) × (length out ≡ length out₀) × (out ≡ over out₀ 0 (take (i + i) (hexed bytes)))
@@ -22,7 +19,7 @@ abbrev μ-loop : tie.MeasureT-loop
 μ-loop bytes out₀ i₀ out i = length bytes - i
 
 loop-holds : tie.Need-loop-holds Inv-loop μ-loop
-loop-holds c = 
+loop-holds c =
     let a = c .before .before .args in
     (omega arith, refl, over-none (a .out .now) (hexed (a .bytes .now)) 0)
 
@@ -57,11 +54,10 @@ loop-less : tie.Need-loop-less Inv-loop μ-loop
 loop-less c = search needs
 
 loop-again : tie.Need-loop-again Inv-loop μ-loop
-loop-again c = 
+loop-again c =
     let l = c .before .before .before .before .loop in
     let a = c .before .before .before .before .before .before .before .args in
-    let n = l .inv .1 in
-    (
+    let n = l .inv .1 in (
       omega arith,
       simp length-set n,
       rw (l .inv .2) (hexed-more (a .out .now) (a .bytes .now) (l .i) _ _ (omega arith) (search needs) (c .before .lower-digit .ensures) (c .lower-digit2 .ensures)),
@@ -71,7 +67,7 @@ same-length : tie.Need-same-length Inv-loop μ-loop
 same-length c = search needs
 
 returns : tie.Need-returns Inv-loop μ-loop
-returns c = 
+returns c =
     let l = c .before .loop in
     let a = c .before .before .before .before .args in
     l .inv .2 ∙ over-all (a .out .now) (hexed (a .bytes .now)) 0 (l .i + l .i) (omega (arith, hexed-length (a .bytes .now)))

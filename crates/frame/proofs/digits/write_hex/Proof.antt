@@ -4,9 +4,6 @@ use mathlib.Core.Path.{_∙_}
 use Rattle.frame.proofs.Spelling.{hex-no, hex-yes}
 use Rattle.frame.proofs.digits.write_hex.Statement.{statement}
 use Rattle.frame.proofs.digits.write_hex.Tie as tie
-use Rattle.frame.proofs.digits.write_hex.Reads as reads
-use Rattle.frame.proofs.digits.write_hex.Lts as lts
-use Rattle.frame.proofs.digits.put_digits.Reads as put-digits-reads
 
 returns : tie.Need-returns
 returns c = hex-no _ _ (search needs)
@@ -21,8 +18,8 @@ same-length : tie.Need-same-length
 same-length c = search needs
 
 returns-2 : tie.Need-returns-2
-returns-2 c = 
-    let s = c .before .before .before .before .before .before .before  in
+returns-2 c =
+    let s = c .before .before .before .before .before .before .before in
     let e = hex-yes (s .args .bytes .now) (s .args .out .now) (search needs) in
     (e .0, c .before .before .put-digits .ensures ∙ e .1)
 

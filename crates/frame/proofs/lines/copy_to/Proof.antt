@@ -1,16 +1,14 @@
 -- `copy_to` meets its contract: what was copied stands in its place.
 use borrow.Author.Needs.{needs}
-use Prim.Native.Nat.{_≤_, _-_, _+_}
-use mathlib.Core.Path.{_≡_, refl, sym, ap, _∙_}
+use Prim.Native.Nat.{_≤_, _-_}
+use mathlib.Core.Path.{_≡_, refl, ap, _∙_}
 use native.Mathlib.Omega.{arith}
 use lib.ListN.{length, take, length-set}
 use Rattle.lists.specs.Pieces.{over}
-use Rattle.frame.proofs.Fill.{over-none, over-more, over-room}
+use Rattle.frame.proofs.Fill.{over-none, over-more}
 use Prim.Native.Nat.{ℕ}
 use Rattle.frame.proofs.lines.copy_to.Statement.{statement}
 use Rattle.frame.proofs.lines.copy_to.Tie as tie
-use Rattle.frame.proofs.lines.copy_to.Reads as reads
-use Rattle.frame.proofs.lines.copy_to.Lts as lts
 
 abbrev Inv-loop : tie.InvT-loop
 Inv-loop line₀ at part n i₀ line i = (i ≤ n) × (length line ≡ length line₀) × (line ≡ over line₀ at (take i part))
@@ -37,7 +35,7 @@ loop-less : tie.Need-loop-less Inv-loop μ-loop
 loop-less c = search needs
 
 loop-again : tie.Need-loop-again Inv-loop μ-loop
-loop-again c = 
+loop-again c =
     let l = c .before .before .loop in
     let a = c .before .before .before .args in
     let n = l .inv .1 in
@@ -47,7 +45,7 @@ same-length : tie.Need-same-length Inv-loop μ-loop
 same-length c = search needs
 
 returns : tie.Need-returns Inv-loop μ-loop
-returns c = 
+returns c =
     let a = c .before .before .args in
     let e : c .before .loop .i ≡ a .n = omega arith in
     c .before .loop .inv .2 ∙ ap (λ (i : ℕ). over (a .line .now) (a .at) (take i (a .part .now))) e

@@ -1,7 +1,7 @@
 -- `has_newline` meets its contract: while no newline was found, there is none so far.
 use borrow.Author.Needs.{needs}
-use Prim.Native.Nat.{ℕ, _≤_, _-_, _+_}
-use mathlib.Core.Path.{_≡_, refl, sym, ap, _∙_}
+use Prim.Native.Nat.{_≤_, _-_, _+_}
+use mathlib.Core.Path.{_≡_}
 use native.Mathlib.Omega.{arith}
 use Rattle.frame.specs.Lines.{Quiet}
 use Rattle.frame.proofs.Ends.{quiet-none, quiet-more}
@@ -13,9 +13,6 @@ use Rattle.lists.specs.Bytes.{byteAt}
 use Rattle.lists.proofs.Picks.{flag-le}
 use Rattle.frame.proofs.lines.has_newline.Statement.{statement}
 use Rattle.frame.proofs.lines.has_newline.Tie as tie
-use Rattle.frame.proofs.lines.has_newline.Reads as reads
-use Rattle.frame.proofs.lines.has_newline.Lts as lts
-use Rattle.frame.proofs.lines.newline_flag.Reads as newline-flag-reads
 
 abbrev Inv-loop : tie.InvT-loop
 Inv-loop block at found₀ i₀ found i = (i ≤ 64) × (found ≤ 1) × (found ≡ 0 → Quiet block at (at + i))
@@ -42,13 +39,12 @@ loop-less : tie.Need-loop-less Inv-loop μ-loop
 loop-less c = search needs
 
 loop-again : tie.Need-loop-again Inv-loop μ-loop
-loop-again c = 
+loop-again c =
     let l = c .before .before .before .before .loop in
     let a = c .before .before .before .before .before .before .args in
     let f = c .before .newline-flag in
     let h : f .result ≤ 1 = omega (arith, f .ensures, flag-le (eqb (byteAt (a .block .now) (a .at + l .i)) 10)) in
-    let both : c .if1 .found ≡ 0 → (l .found ≡ 0) × (f .result ≡ 0) = λ e. ⊎-elim (λ w. (omega arith, omega arith)) (λ w. (omega arith, omega arith)) (c .if1 .came) in
-    (
+    let both : c .if1 .found ≡ 0 → (l .found ≡ 0) × (f .result ≡ 0) = λ e. ⊎-elim (λ w. (omega arith, omega arith)) (λ w. (omega arith, omega arith)) (c .if1 .came) in (
       omega arith,
       ⊎-elim (λ w. omega arith) (λ w. omega arith) (c .if1 .came),
       λ e. quiet-more (a .block .now) (a .at) (a .at + l .i) (a .at + (l .i + 1)) (omega arith) (omega arith) (no-flag _ _ (f .ensures) (both e .1)) (l .inv .2 (both e .0)),

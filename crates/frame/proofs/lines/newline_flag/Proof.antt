@@ -1,12 +1,9 @@
 -- `newline_flag` meets its contract: a case for each arm.
-use borrow.Author.Needs.{needs}
 use borrow.Author.Tests.{eq-eqb, ne-eqb}
 use mathlib.Core.Path.{ap, sym}
 use Rattle.lists.specs.Cases.{flag}
 use Rattle.frame.proofs.lines.newline_flag.Statement.{statement}
 use Rattle.frame.proofs.lines.newline_flag.Tie as tie
-use Rattle.frame.proofs.lines.newline_flag.Reads as reads
-use Rattle.frame.proofs.lines.newline_flag.Lts as lts
 
 returns : tie.Need-returns
 returns c = ap flag (sym (eq-eqb _ _ (c .if1 .taken)))

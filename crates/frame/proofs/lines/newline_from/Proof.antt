@@ -1,15 +1,12 @@
 -- `newline_from` meets its contract: up to the place reached there is no newline.
 use borrow.Author.Needs.{needs}
-use Prim.Native.Nat.{ℕ, _≤_, _-_, _+_}
-use mathlib.Core.Path.{_≡_, refl, sym, ap, _∙_}
-use native.Mathlib.Omega.{arith}
+use Prim.Native.Nat.{_-_, _+_}
+use mathlib.Core.Path.{refl}
 use lib.ListN.{length}
 use Rattle.frame.specs.Lines.{Quiet}
 use Rattle.frame.proofs.Ends.{quiet-more, ends-at, ends-none}
 use Rattle.frame.proofs.lines.newline_from.Statement.{statement}
 use Rattle.frame.proofs.lines.newline_from.Tie as tie
-use Rattle.frame.proofs.lines.newline_from.Reads as reads
-use Rattle.frame.proofs.lines.newline_from.Lts as lts
 
 abbrev Inv-loop : tie.InvT-loop
 Inv-loop block from start i₀ i = Quiet block from i
@@ -33,7 +30,7 @@ loop-less : tie.Need-loop-less Inv-loop μ-loop
 loop-less c = search needs
 
 loop-again : tie.Need-loop-again Inv-loop μ-loop
-loop-again c = 
+loop-again c =
     let l = c .before .before .before .loop in
     quiet-more _ _ (l .i) (l .i + 1) refl (search needs) (c .if1 .left) (l .inv)
 

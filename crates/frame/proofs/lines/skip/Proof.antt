@@ -1,15 +1,12 @@
 -- `skip` meets its contract: stretches without a newline, one after the other.
 use borrow.Author.Needs.{needs}
-use Prim.Native.Nat.{ℕ, _≤_, _-_, _+_}
+use Prim.Native.Nat.{_-_}
 use native.Mathlib.Omega.{arith}
 use lib.ListN.{length}
 use Rattle.frame.specs.Lines.{Quiet}
 use Rattle.frame.proofs.Ends.{quiet-none, quiet-join}
 use Rattle.frame.proofs.lines.skip.Statement.{statement}
 use Rattle.frame.proofs.lines.skip.Tie as tie
-use Rattle.frame.proofs.lines.skip.Reads as reads
-use Rattle.frame.proofs.lines.skip.Lts as lts
-use Rattle.frame.proofs.lines.has_newline.Reads as has-newline-reads
 
 abbrev Inv-loop : tie.InvT-loop
 Inv-loop block from i₀ i = Quiet block from i

@@ -1,13 +1,8 @@
 -- `page_number` meets its contract: eight bytes, the greatest first.
 use borrow.Author.Needs.{needs}
-use mathlib.Core.Path.{_≡_, _∙_}
-use native.Mathlib.Omega.{arith}
 use Rattle.frame.proofs.Numbers.{big-eight}
 use Rattle.frame.proofs.reading.page_number.Statement.{statement}
 use Rattle.frame.proofs.reading.page_number.Tie as tie
-use Rattle.frame.proofs.reading.page_number.Reads as reads
-use Rattle.frame.proofs.reading.page_number.Lts as lts
-use Rattle.frame.proofs.reading.four.Reads as four-reads
 
 four-requires : tie.Need-four-requires
 four-requires c κs = search needs
@@ -22,7 +17,7 @@ add-result : tie.Need-add-result
 add-result c = search needs
 
 returns : tie.Need-returns
-returns c = 
+returns c =
     let e = c .before .four .ensures .0 in
     let f = c .four2 .ensures .0 in
     rw (e, f) (big-eight (c .before .before .before .args .bytes .now) (search needs))

@@ -1,11 +1,11 @@
 -- `read_digits` meets its contract: a law for each way out, and the facts of a line of digits.
 use borrow.Author.Needs.{needs}
-use Prim.Native.Nat.{ℕ, _+_, _*_, _≤_, _<_}
-use mathlib.Core.Path.{_≡_, refl, sym, ap, _∙_}
+use Prim.Native.Nat.{_+_, _*_, _<_}
+use mathlib.Core.Path.{_≡_, ap, _∙_}
 use native.Mathlib.Omega.{arith}
 use lib.ListN.{length}
 use Rattle.lists.specs.Pieces.{each, over}
-use Rattle.frame.specs.Digits.{worstOf, spelled, pairAt}
+use Rattle.frame.specs.Digits.{worstOf, spelled}
 use Rattle.frame.specs.Frames.{anchorCount, isFrame, goodOf}
 use Rattle.frame.proofs.Values.{sound}
 use Rattle.frame.proofs.Spelling.{pairs-spell}
@@ -14,12 +14,6 @@ use mathlib.Core.Bool.{false}
 use mathlib.Core.Path.{ap₂}
 use Rattle.frame.proofs.reading.read_digits.Statement.{statement}
 use Rattle.frame.proofs.reading.read_digits.Tie as tie
-use Rattle.frame.proofs.reading.read_digits.Reads as reads
-use Rattle.frame.proofs.reading.read_digits.Lts as lts
-use Rattle.frame.proofs.digits.digit_values.Reads as digit-values-reads
-use Rattle.frame.proofs.digits.pair.Reads as pair-reads
-use Rattle.frame.proofs.digits.pair_up.Reads as pair-up-reads
-use Rattle.frame.proofs.reading.fields.Reads as fields-reads
 
 digit-values-requires : tie.Need-digit-values-requires
 digit-values-requires c κs = search needs
@@ -28,8 +22,8 @@ same-length : tie.Need-same-length
 same-length c = search needs
 
 returns : tie.Need-returns
-returns c = 
-    let s = c .before .before .before .before .before .before .before .before  in
+returns c =
+    let s = c .before .before .before .before .before .before .before .before in
     let l = s .args .line .now in
     let no : isFrame l ≡ false = frame-digits l (omega (arith, c .before .before .before .digit-values .ensures .0)) in
     (answer-no l no, bytes-no l (s .args .bytes .now) (search needs) no)
@@ -41,8 +35,8 @@ slice-read-pair-2 : tie.Need-slice-read-pair-2
 slice-read-pair-2 c = search needs
 
 pair-requires : tie.Need-pair-requires
-pair-requires c κs = 
-    let s = c .before .before .before .before .before .before .before .before .before .before  in
+pair-requires c κs =
+    let s = c .before .before .before .before .before .before .before .before .before .before in
     let l = s .args .line .now in
     let d = c .before .before .before .before .before .digit-values in
     let worst : worstOf l < 16 = omega (arith, d .ensures .0) in
@@ -62,8 +56,8 @@ same-length-2 : tie.Need-same-length-2
 same-length-2 c = search needs
 
 returns-2 : tie.Need-returns-2
-returns-2 c = 
-    let s = c .before .before .before .before .before .before .before .before .before .before .before .before  in
+returns-2 c =
+    let s = c .before .before .before .before .before .before .before .before .before .before .before .before in
     let l = s .args .line .now in
     let d = c .before .before .before .before .before .before .before .digit-values in
     let p = c .before .pair in
@@ -75,8 +69,8 @@ add-pair-up : tie.Need-add-pair-up
 add-pair-up c = search needs
 
 pair-up-requires : tie.Need-pair-up-requires
-pair-up-requires c κs = 
-    let s = c .before .before .before .before .before .before .before .before .before .before .before .before .before .before  in
+pair-up-requires c κs =
+    let s = c .before .before .before .before .before .before .before .before .before .before .before .before .before .before in
     let l = s .args .line .now in
     let d = c .before .before .before .before .before .before .before .before .before .digit-values in
     let p = c .before .before .before .pair in
@@ -95,8 +89,8 @@ same-length-4 : tie.Need-same-length-4
 same-length-4 c = search needs
 
 returns-3 : tie.Need-returns-3
-returns-3 c = 
-    let s = c .before .before .before .before .before .before .before .before .before .before .before .before .before .before .before .before .before .before .before  in
+returns-3 c =
+    let s = c .before .before .before .before .before .before .before .before .before .before .before .before .before .before .before .before .before .before .before in
     let l = s .args .line .now in
     let d = c .before .before .before .before .before .before .before .before .before .before .before .before .before .before .digit-values in
     let p = c .before .before .before .before .before .before .before .before .pair in
@@ -105,8 +99,7 @@ returns-3 c =
     let e : p .result ≡ anchorCount l = p .ensures ∙ count-of l _ (search needs) (d .ensures .1) in
     let n : length l ≡ 8214 + 2 * anchorCount l = omega arith in
     let written : u .last .1 .1 .0 ≡ over (s .args .bytes .now) 0 (spelled l) =
-    u .ensures ∙ ap (over (s .args .bytes .now) 0) (pairs-spell l _ (4107 + p .result) (omega arith) (d .ensures .1)) in
-    (
+    u .ensures ∙ ap (over (s .args .bytes .now) 0) (pairs-spell l _ (4107 + p .result) (omega arith) (d .ensures .1)) in (
       c .fields .ensures ∙ ap₂ goodOf written e ∙ answer-yes l (s .args .bytes .now) worst n,
       written ∙ bytes-yes l (s .args .bytes .now) (search needs) (frame-yes l worst n),
     )

@@ -7,24 +7,20 @@ use Rattle.frame.specs.Frames.{isFrame}
 use Rattle.frame.proofs.Frames.{frame-short, frame-long, answer-no, small, large, bytes-small, bytes-no}
 use Rattle.frame.proofs.reading.read_frame.Statement.{statement}
 use Rattle.frame.proofs.reading.read_frame.Tie as tie
-use Rattle.frame.proofs.reading.read_frame.Reads as reads
-use Rattle.frame.proofs.reading.read_frame.Lts as lts
-use Rattle.frame.proofs.reading.read_digits.Reads as read-digits-reads
-use Rattle.frame.proofs.reading.value_room.Reads as value-room-reads
 
 returns : tie.Need-returns
 returns c = (small _ _ (search needs), bytes-small _ _ (search needs))
 
 returns-2 : tie.Need-returns-2
-returns-2 c = 
-    let s = c .before .before .before .before  in
+returns-2 c =
+    let s = c .before .before .before .before in
     let l = s .args .line .now in
     let no : isFrame l ≡ false = frame-short l (search needs) in
     (answer-no l no ∙ large l (length (s .args .bytes .now)) (search needs), bytes-no l (s .args .bytes .now) (search needs) no)
 
 returns-3 : tie.Need-returns-3
-returns-3 c = 
-    let s = c .before .before .before .before .before  in
+returns-3 c =
+    let s = c .before .before .before .before .before in
     let l = s .args .line .now in
     let no : isFrame l ≡ false = frame-long l (search needs) in
     (answer-no l no ∙ large l (length (s .args .bytes .now)) (search needs), bytes-no l (s .args .bytes .now) (search needs) no)
@@ -42,8 +38,8 @@ same-length : tie.Need-same-length
 same-length c = search needs
 
 returns-4 : tie.Need-returns-4
-returns-4 c = 
-    let s = c .before .before .before .before .before .before .before .before .before .before .before .before  in
+returns-4 c =
+    let s = c .before .before .before .before .before .before .before .before .before .before .before .before in
     let r = c .before .before .before .read-digits in
     (r .ensures .0 ∙ large (s .args .line .now) (length (s .args .bytes .now)) (search needs), r .ensures .1)
 

@@ -6,11 +6,6 @@ use Rattle.frame.proofs.Replies.{decoded-parts}
 use Prim.Native.Nat.{_+_, _-_}
 use Rattle.frame.proofs.reply.decode_frame.Statement.{statement}
 use Rattle.frame.proofs.reply.decode_frame.Tie as tie
-use Rattle.frame.proofs.reply.decode_frame.Reads as reads
-use Rattle.frame.proofs.reply.decode_frame.Lts as lts
-use Rattle.answers.proofs.settings.Options.new.Reads as new-reads
-use Rattle.decode.proofs.decode_page.Reads as decode-page-reads
-use Rattle.frame.proofs.reply.page_room.Reads as page-room-reads
 
 page-room-requires : tie.Need-page-room-requires
 page-room-requires c κs = search needs
@@ -49,7 +44,7 @@ decode-page-requires : tie.Need-decode-page-requires
 decode-page-requires c κs = search needs
 
 returns : tie.Need-returns
-returns c = 
+returns c =
     let a = c .before .before .before .before .before .before .before .before .args in
     let n = a .n in
     c .before .decode-page .ensures .0

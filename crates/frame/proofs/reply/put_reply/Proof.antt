@@ -1,6 +1,6 @@
 -- `put_reply` meets its contract: the front of the buffer is the report.
 use borrow.Author.Needs.{needs}
-use Prim.Native.Nat.{ℕ, _+_, _≤_}
+use Prim.Native.Nat.{ℕ}
 use mathlib.Core.Path.{_≡_, ap, _∙_}
 use mathlib.Core.List.{List}
 use native.Mathlib.Omega.{arith}
@@ -10,11 +10,6 @@ use Rattle.frame.specs.Report.{lineOf}
 use Rattle.frame.proofs.Reports.{report-fits, report-number, report-taken}
 use Rattle.frame.proofs.reply.put_reply.Statement.{statement}
 use Rattle.frame.proofs.reply.put_reply.Tie as tie
-use Rattle.frame.proofs.reply.put_reply.Reads as reads
-use Rattle.frame.proofs.reply.put_reply.Lts as lts
-use Rattle.frame.proofs.reply.report_room.Reads as report-room-reads
-use Rattle.frame.proofs.writing.put_line.Reads as put-line-reads
-use Rattle.frame.proofs.writing.put_report.Reads as put-report-reads
 
 report-room-requires : tie.Need-report-room-requires
 report-room-requires c κs = search needs
@@ -32,7 +27,7 @@ part-put-line-start : tie.Need-part-put-line-start
 part-put-line-start c = search needs
 
 part-put-line-end : tie.Need-part-put-line-end
-part-put-line-end c = 
+part-put-line-end c =
     let a = c .before .before .before .before .before .before .args in
     let p = c .before .before .put-report in
     let room = c .before .before .before .before .report-room in
@@ -42,7 +37,7 @@ part-put-line-end c =
     omega (arith, room .ensures)
 
 put-line-requires : tie.Need-put-line-requires
-put-line-requires c κs = 
+put-line-requires c κs =
     let a = c .before .before .before .before .before .before .before .before .args in
     let p = c .before .before .before .before .put-report in
     let room = c .before .before .before .before .before .before .report-room in
@@ -55,7 +50,7 @@ same-length : tie.Need-same-length
 same-length c = search needs
 
 returns : tie.Need-returns
-returns c = 
+returns c =
     let a = c .before .before .before .before .before .before .before .before .before .before .before .args in
     let p = c .before .before .before .before .before .before .before .put-report in
     let room = c .before .before .before .before .before .before .before .before .before .report-room in

@@ -1,7 +1,6 @@
 -- `reply_to` meets its contract: a law for each way out.
 use borrow.Author.Needs.{needs}
-use Prim.Native.Nat.{ℕ, _+_, _≤_}
-use mathlib.Core.Path.{_≡_, refl, sym, _∙_}
+use mathlib.Core.Path.{_≡_, sym, _∙_}
 use native.Mathlib.Omega.{arith}
 use lib.ListN.{length}
 use Rattle.frame.specs.Frames.{frameOf}
@@ -11,13 +10,6 @@ use Rattle.frame.specs.Report.{lineOf, reportBytes}
 use Rattle.frame.specs.Reply.{malformed}
 use Rattle.frame.proofs.reply.reply_to.Statement.{statement}
 use Rattle.frame.proofs.reply.reply_to.Tie as tie
-use Rattle.frame.proofs.reply.reply_to.Reads as reads
-use Rattle.frame.proofs.reply.reply_to.Lts as lts
-use Rattle.frame.proofs.reading.read_frame.Reads as read-frame-reads
-use Rattle.frame.proofs.reply.decode_frame.Reads as decode-frame-reads
-use Rattle.frame.proofs.reply.frame_room.Reads as frame-room-reads
-use Rattle.frame.proofs.reply.put_reply.Reads as put-reply-reads
-use Rattle.frame.proofs.writing.put_line.Reads as put-line-reads
 
 returns : tie.Need-returns
 returns c = reply-short _ _ (search needs)
@@ -47,7 +39,7 @@ same-length : tie.Need-same-length
 same-length c = search needs
 
 returns-2 : tie.Need-returns-2
-returns-2 c = 
+returns-2 c =
     let a = c .before .before .before .before .before .before .before .before .before .before .before .before .before .before .args in
     let l = a .line .now in
     let f = c .before .before .before .before .before .before .before .before .read-frame in
@@ -60,7 +52,7 @@ slice-aggregate-decode-frame : tie.Need-slice-aggregate-decode-frame
 slice-aggregate-decode-frame c = search needs
 
 decode-frame-requires : tie.Need-decode-frame-requires
-decode-frame-requires c κs = 
+decode-frame-requires c κs =
     let a = c .before .before .before .before .before .before .before .before .before .before .before .args in
     let l = a .line .now in
     let f = c .before .before .before .before .before .read-frame in
@@ -81,7 +73,7 @@ same-length-2 : tie.Need-same-length-2
 same-length-2 c = search needs
 
 returns-3 : tie.Need-returns-3
-returns-3 c = 
+returns-3 c =
     let a = c .before .before .before .before .before .before .before .before .before .before .before .before .before .before .before .before .args in
     let l = a .line .now in
     let f = c .before .before .before .before .before .before .before .before .before .before .read-frame in

@@ -10,12 +10,6 @@ use Rattle.frame.specs.Numbers.{bigBytes}
 use Rattle.frame.proofs.Reports.{accepted-put}
 use Rattle.frame.proofs.writing.put_accepted.Statement.{statement}
 use Rattle.frame.proofs.writing.put_accepted.Tie as tie
-use Rattle.frame.proofs.writing.put_accepted.Reads as reads
-use Rattle.frame.proofs.writing.put_accepted.Lts as lts
-use Rattle.answers.proofs.trust.Confidence.number.Reads as trust-Confidence-number-reads
-use Rattle.answers.proofs.trust.Source.number.Reads as trust-Source-number-reads
-use Rattle.frame.proofs.writing.put_fits.Reads as put-fits-reads
-use Rattle.frame.proofs.writing.put_number.Reads as put-number-reads
 
 number-requires : tie.Need-number-requires
 number-requires c κs = search needs
@@ -36,19 +30,19 @@ put-fits-requires : tie.Need-put-fits-requires
 put-fits-requires c κs = simp length-set (omega arith)
 
 put-number-requires : tie.Need-put-number-requires
-put-number-requires c κs = 
+put-number-requires c κs =
     let p = c .before .before .before .put-fits in
     let k : length (p .last .1 .0) ≡ length (c .before .before .before .before .before .before .before .before .before .before .before .args .bytes .now) = p .kept .1 .0 ∙ simp length-set in
     omega arith
 
 same-length : tie.Need-same-length
-same-length c = 
+same-length c =
     let p = c .before .before .before .before .before .before .put-fits in
     let k : length (p .last .1 .0) ≡ length (c .before .before .before .before .before .before .before .before .before .before .before .before .before .before .args .bytes .now) = p .kept .1 .0 ∙ simp length-set in
     c .before .before .put-number .kept .1 .1 .0 ∙ k
 
 returns : tie.Need-returns
-returns c = 
+returns c =
     let a = c .before .before .before .before .before .before .before .before .before .before .before .before .before .before .args in
     let s = c .before .before .before .before .before .before .before .before .before .number in
     let k = c .before .before .before .before .before .before .before .before .number2 in

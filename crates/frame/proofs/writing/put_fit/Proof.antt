@@ -1,7 +1,7 @@
 -- `put_fit` meets its contract: six bytes, one behind the other.
 use borrow.Author.Needs.{needs}
-use Prim.Native.Nat.{ℕ, _≤_, _+_}
-use mathlib.Core.Path.{_≡_, refl, sym, ap, ap₂, _∙_}
+use Prim.Native.Nat.{ℕ, _+_}
+use mathlib.Core.Path.{_≡_, ap, _∙_}
 use native.Mathlib.Omega.{arith}
 use lib.ListN.{length, set, length-set}
 use mathlib.Core.List.{List}
@@ -10,10 +10,6 @@ use Rattle.frame.specs.Numbers.{bigBytes}
 use Rattle.frame.proofs.Reports.{fit-put}
 use Rattle.frame.proofs.writing.put_fit.Statement.{statement}
 use Rattle.frame.proofs.writing.put_fit.Tie as tie
-use Rattle.frame.proofs.writing.put_fit.Reads as reads
-use Rattle.frame.proofs.writing.put_fit.Lts as lts
-use Rattle.frame.proofs.writing.exact_mark.Reads as exact-mark-reads
-use Rattle.frame.proofs.writing.put_number.Reads as put-number-reads
 
 slice-write-bytes : tie.Need-slice-write-bytes
 slice-write-bytes c = search needs
@@ -34,7 +30,7 @@ add-put-number-2 : tie.Need-add-put-number-2
 add-put-number-2 c = search needs
 
 put-number-requires-2 : tie.Need-put-number-requires-2
-put-number-requires-2 c κs = 
+put-number-requires-2 c κs =
     let a = c .before .before .before .before .before .before .before .before .args in
     let p = c .before .before .before .before .put-number in
     let k : length (p .last .1 .1 .0) ≡ length (a .bytes .now) = p .kept .1 .1 .0 ∙ length-set (a .bytes .now) (a .at) (a .f .step) in
@@ -47,7 +43,7 @@ add-bytes : tie.Need-add-bytes
 add-bytes c = search needs
 
 slice-write-bytes-2 : tie.Need-slice-write-bytes-2
-slice-write-bytes-2 c = 
+slice-write-bytes-2 c =
     let a = c .before .before .before .before .before .before .before .before .before .before .before .before .args in
     let p = c .before .before .before .before .before .before .before .before .put-number in
     let k : length (p .last .1 .1 .0) ≡ length (a .bytes .now) = p .kept .1 .1 .0 ∙ length-set (a .bytes .now) (a .at) (a .f .step) in
@@ -56,7 +52,7 @@ slice-write-bytes-2 c =
     omega arith
 
 same-length : tie.Need-same-length
-same-length c = 
+same-length c =
     let a = c .before .before .before .before .before .before .before .before .before .before .before .before .args in
     let p = c .before .before .before .before .before .before .before .before .put-number in
     let k : length (p .last .1 .1 .0) ≡ length (a .bytes .now) = p .kept .1 .1 .0 ∙ length-set (a .bytes .now) (a .at) (a .f .step) in
@@ -65,7 +61,7 @@ same-length c =
     simp length-set (m ∙ k)
 
 returns : tie.Need-returns
-returns c = 
+returns c =
     let a = c .before .before .before .before .before .before .before .before .before .before .before .before .args in
     let p = c .before .before .before .before .before .before .before .before .put-number in
     let q = c .before .before .before .put-number2 in

@@ -1,7 +1,7 @@
 -- `put_fits` meets its contract: the fits so far, one behind the other.
 use borrow.Author.Needs.{needs}
-use Prim.Native.Nat.{ℕ, _≤_, _<_, _-_, _+_}
-use mathlib.Core.Path.{_≡_, refl, sym, ap, _∙_}
+use Prim.Native.Nat.{ℕ, _≤_, _-_, _+_}
+use mathlib.Core.Path.{_≡_, refl, ap, _∙_}
 use native.Mathlib.Omega.{arith}
 use lib.ListN.{length}
 use Rattle.lists.specs.Pieces.{joined, over}
@@ -13,9 +13,6 @@ use mathlib.Core.List.{List, []}
 use Prim.Native.Nat.{_*_}
 use Rattle.frame.proofs.writing.put_fits.Statement.{statement}
 use Rattle.frame.proofs.writing.put_fits.Tie as tie
-use Rattle.frame.proofs.writing.put_fits.Reads as reads
-use Rattle.frame.proofs.writing.put_fits.Lts as lts
-use Rattle.frame.proofs.writing.put_fit.Reads as put-fit-reads
 
 abbrev Inv-loop : tie.InvT-loop
 Inv-loop bytes₀ at fits s₀ bytes s = (s ≤ 8) × (length bytes ≡ length bytes₀) × (bytes ≡ over bytes₀ at (joined (λ k. fitBytes (entry fits k)) s))
@@ -49,13 +46,12 @@ loop-less : tie.Need-loop-less Inv-loop μ-loop
 loop-less c = search needs
 
 loop-again : tie.Need-loop-again Inv-loop μ-loop
-loop-again c = 
+loop-again c =
     let l = c .before .before .before .before .before .before .loop in
     let a = c .before .before .before .before .before .before .before .before .args in
     let p = c .before .before .put-fit in
     let k : length (p .last .1 .0) ≡ length (l .bytes) = p .kept .1 .0 in
-    let n = l .inv .1 in
-    (
+    let n = l .inv .1 in (
       omega arith,
       k ∙ n,
       p .ensures ∙ ap (λ (w : List ℕ). over w (a .at + l .s * 6) (fitBytes (entry (a .t1) (l .s)))) (l .inv .2) ∙ fits-more (a .bytes .now) (a .at) (entry (a .t1)) (l .s) (omega arith),
@@ -65,7 +61,7 @@ same-length : tie.Need-same-length Inv-loop μ-loop
 same-length c = search needs
 
 returns : tie.Need-returns Inv-loop μ-loop
-returns c = 
+returns c =
     let l = c .before .loop in
     let a = c .before .before .before .args in
     let e : l .s ≡ 8 = omega arith in

@@ -1,31 +1,23 @@
 -- `put_line` meets its contract: the digits, and the newline behind them.
 use borrow.Author.Needs.{needs}
-use Prim.Native.Nat.{ℕ, _≤_, _-_, _+_}
-use mathlib.Core.Path.{_≡_, refl, sym, ap, _∙_}
+use Prim.Native.Nat.{_-_}
 use native.Mathlib.Omega.{arith}
-use lib.ListN.{length}
-use Rattle.frame.specs.Report.{lineOf}
-use Rattle.frame.proofs.Fill.{over-push}
-use Rattle.frame.proofs.Spelling.{hexed-length, hex-yes}
 use Rattle.frame.proofs.Reports.{line-digits, line-length, line-put}
 use Rattle.frame.proofs.writing.put_line.Statement.{statement}
 use Rattle.frame.proofs.writing.put_line.Tie as tie
-use Rattle.frame.proofs.writing.put_line.Reads as reads
-use Rattle.frame.proofs.writing.put_line.Lts as lts
-use Rattle.frame.proofs.digits.write_hex.Reads as write-hex-reads
 
 write-hex-requires : tie.Need-write-hex-requires
 write-hex-requires c κs = search needs
 
 slice-write-out : tie.Need-slice-write-out
-slice-write-out c = 
+slice-write-out c =
     let w = c .before .before .write-hex in
     let a = c .before .before .before .before .before .before .args in
     let n = line-digits (a .bytes .now) (a .out .now) (search needs) (w .result) (w .ensures .0) in
     omega arith
 
 add-result : tie.Need-add-result
-add-result c = 
+add-result c =
     let w = c .before .before .write-hex in
     let a = c .before .before .before .before .before .before .args in
     let n = line-digits (a .bytes .now) (a .out .now) (search needs) (w .result) (w .ensures .0) in
@@ -35,10 +27,9 @@ same-length : tie.Need-same-length
 same-length c = search needs
 
 returns : tie.Need-returns
-returns c = 
+returns c =
     let w = c .before .before .write-hex in
-    let a = c .before .before .before .before .before .before .args in
-    (
+    let a = c .before .before .before .before .before .before .args in (
       line-length (a .bytes .now) (a .out .now) (search needs) (w .result) (w .ensures .0),
       line-put (a .bytes .now) (a .out .now) (search needs) (w .result) (w .last .1 .0) (w .ensures .0) (w .ensures .1),
     )

@@ -1,7 +1,7 @@
 -- `put_number` meets its contract: what is left to write makes the whole.
 use borrow.Author.Needs.{needs}
-use Prim.Native.Nat.{ℕ, _≤_, _-_, _+_}
-use mathlib.Core.Path.{_≡_, refl, sym, ap, _∙_}
+use Prim.Native.Nat.{ℕ, _≤_, _-_}
+use mathlib.Core.Path.{_≡_, refl, ap, _∙_}
 use native.Mathlib.Omega.{arith}
 use lib.ListN.{length, length-set}
 use Rattle.lists.specs.Pieces.{over}
@@ -9,8 +9,6 @@ use Rattle.frame.specs.Numbers.{bigBytes}
 use Rattle.frame.proofs.Numbers.{number-more, number-none}
 use Rattle.frame.proofs.writing.put_number.Statement.{statement}
 use Rattle.frame.proofs.writing.put_number.Tie as tie
-use Rattle.frame.proofs.writing.put_number.Reads as reads
-use Rattle.frame.proofs.writing.put_number.Lts as lts
 
 abbrev Inv-loop : tie.InvT-loop
 Inv-loop n k bytes₀ at rest₀ i₀ bytes rest i = (i ≤ k) × (length bytes ≡ length bytes₀) × (over bytes at (bigBytes i rest) ≡ over bytes₀ at (bigBytes k n))
@@ -37,7 +35,7 @@ loop-less : tie.Need-loop-less Inv-loop μ-loop
 loop-less c = search needs
 
 loop-again : tie.Need-loop-again Inv-loop μ-loop
-loop-again c = 
+loop-again c =
     let l = c .before .loop in
     let a = c .before .before .args in
     let n = l .inv .1 in
@@ -47,7 +45,7 @@ same-length : tie.Need-same-length Inv-loop μ-loop
 same-length c = search needs
 
 returns : tie.Need-returns Inv-loop μ-loop
-returns c = 
+returns c =
     let l = c .before .loop in
     let a = c .before .before .args in
     let e : 0 ≡ l .i = omega arith in

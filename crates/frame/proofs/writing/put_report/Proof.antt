@@ -10,12 +10,6 @@ use Rattle.frame.specs.Report.{acceptedBytes}
 use Rattle.frame.proofs.Reports.{report-short, report-accepted, report-refused}
 use Rattle.frame.proofs.writing.put_report.Statement.{statement}
 use Rattle.frame.proofs.writing.put_report.Tie as tie
-use Rattle.frame.proofs.writing.put_report.Reads as reads
-use Rattle.frame.proofs.writing.put_report.Lts as lts
-use Rattle.answers.proofs.kinds.Answer.accepted.Reads as accepted-reads
-use Rattle.answers.proofs.kinds.Answer.number.Reads as number-reads
-use Rattle.frame.proofs.writing.put_accepted.Reads as put-accepted-reads
-use Rattle.frame.proofs.writing.put_number.Reads as put-number-reads
 
 returns : tie.Need-returns
 returns c = report-short _ _ _ (search needs)
@@ -33,35 +27,35 @@ accepted-requires : tie.Need-accepted-requires
 accepted-requires c κs = search needs
 
 put-accepted-requires : tie.Need-put-accepted-requires
-put-accepted-requires c κs = 
+put-accepted-requires c κs =
     let a = c .before .before .before .before .before .before .before .before .before .before .before .args in
     let p = c .before .before .before .before .before .put-number in
     let k : length (p .last .1 .1 .0) ≡ length (a .bytes .now) = p .kept .1 .1 .0 ∙ length-set (a .bytes .now) 0 _ in
     omega arith
 
 same-length : tie.Need-same-length
-same-length c = 
+same-length c =
     let a = c .before .before .before .before .before .before .before .before .before .before .before .before .before .before .args in
     let p = c .before .before .before .before .before .before .before .before .put-number in
     let k : length (p .last .1 .1 .0) ≡ length (a .bytes .now) = p .kept .1 .1 .0 ∙ length-set (a .bytes .now) 0 _ in
     c .before .before .put-accepted .kept .1 .0 ∙ k
 
 returns-2 : tie.Need-returns-2
-returns-2 c = 
+returns-2 c =
     let a = c .before .before .before .before .before .before .before .before .before .before .before .before .before .before .args in
     let n = c .before .before .before .before .before .before .before .before .before .before .number in
     let yes = report-accepted (a .d) (a .page) (a .bytes .now) (search needs) (n .result) (n .ensures) (sym (c .before .before .before .before .before .accepted .ensures) ∙ c .before .before .before .before .if2 .taken) in
     (yes .0, c .before .before .put-accepted .ensures ∙ ap (λ (w : List ℕ). over w 9 (acceptedBytes (a .d))) (c .before .before .before .before .before .before .before .before .put-number .ensures) ∙ yes .1)
 
 same-length-2 : tie.Need-same-length-2
-same-length-2 c = 
+same-length-2 c =
     let a = c .before .before .before .before .before .before .before .before .before .before .args in
     let p = c .before .before .before .before .put-number in
     let k : length (p .last .1 .1 .0) ≡ length (a .bytes .now) = p .kept .1 .1 .0 ∙ length-set (a .bytes .now) 0 _ in
     k
 
 returns-3 : tie.Need-returns-3
-returns-3 c = 
+returns-3 c =
     let a = c .before .before .before .before .before .before .before .before .before .before .args in
     let n = c .before .before .before .before .before .before .number in
     let no = report-refused (a .d) (a .page) (a .bytes .now) (search needs) (n .result) (n .ensures) (sym (c .before .accepted .ensures) ∙ c .if2 .left) in

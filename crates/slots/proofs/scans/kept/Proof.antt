@@ -1,23 +1,26 @@
--- `kept` meets its contract: with fewer live slots than the best, a tail's scan is not taken.
-use mathlib.Core.Path.{ap, _∙_}
-use Rattle.slots.proofs.Sweeps.{kept-best}
-use Rattle.slots.specs.Slots.{stronger}
-use Rattle.slots.specs.declared.scans.Scan.{Scan}
+-- `kept` meets its contract, a law of `keptOf` for each way out.
+use Rattle.slots.proofs.Sweeps.{kept-few, kept-far, kept-run}
 use borrow.Author.Needs.{needs}
 use Rattle.slots.proofs.scans.kept.Statement.{statement}
 use Rattle.slots.proofs.scans.kept.Tie as tie
 
 returns : tie.Need-returns
-returns c = kept-best _ _ _ (c .if1 .taken)
+returns c = kept-few _ _ _ (c .if1 .taken)
 
-scan-of-requires : tie.Need-scan-of-requires
-scan-of-requires c κs = search needs
+returns-2 : tie.Need-returns-2
+returns-2 c = kept-far _ _ _ (c .if2 .taken)
+
+mul-t9 : tie.Need-mul-t9
+mul-t9 c = search needs
+
+add-t10 : tie.Need-add-t10
+add-t10 c = search needs
 
 better-requires : tie.Need-better-requires
 better-requires c κs = search needs
 
-returns-2 : tie.Need-returns-2
-returns-2 c = c .better .ensures ∙ ap (λ (x : Scan). stronger x (c .before .before .before .before .before .args .best)) (c .before .scan-of .ensures)
+returns-3 : tie.Need-returns-3
+returns-3 c = kept-run _ _ _ _ (c .before .before .if1 .left) (c .before .if2 .left) (c .better .ensures)
 
 pub kept-spec : {M : Type 1} → statement M
-kept-spec = tie.close (tie.spec returns scan-of-requires better-requires returns-2)
+kept-spec = tie.close (tie.spec returns returns-2 mul-t9 add-t10 better-requires returns-3)
