@@ -28,9 +28,10 @@ returns c =
     let a = c .before .before .before .before .before .before .before .before .before .before .before .before .args in
     let o = c .before .before .before .before .before .before .before .new .ensures in
     let f = c .before .before .before .before .before .before .sure-fits .ensures in
-    let e = c .before .before .before .before .decode-summary .ensures in
-    (rw (o, f) at (c .number .ensures ∙ ap (λ (d : Decoding). numberOf (d .choice .answer)) (e .0)),
-    rw (o, f) at (e .1 ∙ ap (λ (d : Decoding). writtenOf d (now (a .stored)) (now (a .shifted)) (now (a .out))) (e .0)))
+    let e = c .before .before .before .before .decode-summary .ensures in (
+      rw (o, f) at (c .number .ensures ∙ ap (λ (d : Decoding). numberOf (d .choice .answer)) (e .0)),
+      rw (o, f) at (e .1 ∙ ap (λ (d : Decoding). writtenOf d (now (a .stored)) (now (a .shifted)) (now (a .out))) (e .0)),
+    )
 
 pub lumeviqo-settle-spec : {M : Type 1} → statement M
 lumeviqo-settle-spec =
