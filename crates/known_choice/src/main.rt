@@ -1,0 +1,59 @@
+// Document 01's page 1: zero data, type 0x45, a good CRC. Read strictly it is answered 5, with the candidates 248 to 255: each sector is
+// exact and votes for another value. The expected line is the document's.
+use answers::Options;
+use libc::STDOUT_FILENO;
+ghost use mathlib.Core.Path.{_≡_};
+ghost use lib.ListN.{length};
+
+fn main() {
+    let mut page = room();
+    page[0xFF2] = 0x45;
+    seal(&mut page);
+    let mut out = room();
+    let none = [0u8; 1];
+    let d = decode::decode_page(1, &page, &none[0..0], Options::strict(), &mut out);
+    let choice = d.choice;
+    let answer = choice.answer;
+    let group = choice.group;
+    let bvs = group.items;
+    number(answer.number());
+    number(bvs[0]);
+    number(bvs[1]);
+    number(bvs[2]);
+    number(bvs[3]);
+    number(bvs[4]);
+    number(bvs[5]);
+    number(bvs[6]);
+    number(bvs[7]);
+    io::write_all(STDOUT_FILENO, b"\n");
+}
+
+// Zeros for a page. The contract gives the length alone.
+fn room() -> [u8; 4096]
+    ensures { λ r. ⌜ 4096 ≡ length r ⌝ }
+{
+    [0u8; 4096]
+}
+
+// The CRC of a page at its end.
+fn seal(page: &mut [u8]) {
+    if page.len() != 4096 {
+        return;
+    }
+    let crc = crc::crc32(&page[0..0xFFC]);
+    put(page, 0xFFC, (crc % 256) as u8);
+    put(page, 0xFFD, (crc / 256 % 256) as u8);
+    put(page, 0xFFE, (crc / 65536 % 256) as u8);
+    put(page, 0xFFF, (crc / 16777216) as u8);
+}
+
+fn put(page: &mut [u8], at: usize, b: u8) {
+    if at < page.len() {
+        page[at] = b;
+    }
+}
+
+fn number(n: u8) {
+    io::write_all(STDOUT_FILENO, b" ");
+    io::print_decimal(STDOUT_FILENO, n as u64);
+}
