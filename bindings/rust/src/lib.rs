@@ -1,0 +1,267 @@
+//! Lumeviqo reads SQL Anywhere 17 page files: it undoes the shift of each page's bytes, and finds its rows. Every function of the library
+//! behind this crate is proved equal to a definition; this crate only checks lengths and gives the answers types.
+//!
+//! A page goes through [`decode`], which writes its plaintext to a lent buffer, and the plaintext through [`parse`] or [`rows`]:
+//!
+//! ```no_run
+//! let stored = std::fs::read("page").unwrap();
+//! let mut plain = [0; lumeviqo::PAGE];
+//! let decoding = lumeviqo::decode(7, &stored, &[], lumeviqo::Options::default(), &mut plain)?;
+//! println!("{:?}", decoding.confidence);
+//! for row in lumeviqo::rows(7, &plain, lumeviqo::Leniency::STRICT)? {
+//!     println!("{:04x}: {} bytes", row.offset, row.bytes.len());
+//! }
+//! # Ok::<(), lumeviqo::Refusal>(())
+//! ```
+//!
+//! Sectors that come one at a time go through [`scan`] once, then [`replace`], and [`decode_summary`] after each.
+mod answers;
+mod layout;
+mod sys;
+
+pub use answers::*;
+
+/// Bytes of a page.
+pub const PAGE: usize = 4096;
+/// Bytes of a page that are shifted: all but the trailer.
+pub const SHIFTED: usize = 4080;
+
+/// The checks that are relaxed: a sum of these bits. Other bits mean nothing.
+#[derive(Debug, Clone, Copy, Default, PartialEq, Eq)]
+pub struct Leniency(pub u8);
+
+impl Leniency {
+    pub const STRICT: Leniency = Leniency(0);
+    /// Take a bv that nothing confirms, and sectors whose step is in doubt.
+    pub const KEYSTREAM: Leniency = Leniency(1);
+    /// Take a slot directory that no prelude confirms.
+    pub const DIRECTORY: Leniency = Leniency(2);
+    /// Take pages that fail their CRC or trailer check.
+    pub const INTEGRITY: Leniency = Leniency(4);
+}
+
+impl std::ops::BitOr for Leniency {
+    type Output = Leniency;
+
+    fn bitor(self, other: Leniency) -> Leniency {
+        Leniency(self.0 | other.0)
+    }
+}
+
+#[derive(Debug, Clone, Copy, PartialEq, Eq)]
+pub struct Options {
+    pub leniency: Leniency,
+    /// From which row count on the row-count test counts.
+    pub min_trailer_count: u8,
+}
+
+impl Default for Options {
+    fn default() -> Self {
+        Options { leniency: Leniency::STRICT, min_trailer_count: 4 }
+    }
+}
+
+/// CRC-32 as ITU-T V.42 defines it.
+pub fn crc32(bytes: &[u8]) -> u32 {
+    unsafe { sys::lumeviqo_crc32(bytes.as_ptr(), bytes.len()) }
+}
+
+/// The trailer record of a page.
+pub fn trailer(page: &[u8]) -> Result<Trailer, Refusal> {
+    let answer = asked::<{ sys::TRAILER }>(|a, n| unsafe { sys::lumeviqo_trailer(page.as_ptr(), page.len(), a, n) });
+    layout::trailer(&answer)
+}
+
+/// Accepts an unallocated page, and one whose CRC and reserved bytes are right.
+pub fn integrity(number: u64, page: &[u8]) -> Result<(), Refusal> {
+    let answer = asked::<{ sys::INTEGRITY }>(|a, n| unsafe { sys::lumeviqo_integrity(number, page.as_ptr(), page.len(), a, n) });
+    layout::integrity(&answer)
+}
+
+/// The fields of page 0, whatever its magic.
+pub fn superblock(page: &[u8]) -> Result<Superblock, Refusal> {
+    let answer = asked::<{ sys::SUPERBLOCK }>(|a, n| unsafe { sys::lumeviqo_superblock(page.as_ptr(), page.len(), a, n) });
+    layout::superblock(&answer)
+}
+
+/// The fields of page 0, if it has the magic of SQL Anywhere 17.
+pub fn superblock_checked(page: &[u8]) -> Result<Superblock, Refusal> {
+    let answer = asked::<{ sys::SUPERBLOCK }>(|a, n| unsafe { sys::lumeviqo_superblock_checked(page.as_ptr(), page.len(), a, n) });
+    layout::superblock(&answer)
+}
+
+/// The fits of a stored page; its shifted bytes go to `shifted`.
+pub fn scan(number: u64, page: &[u8], shifted: &mut [u8]) -> Result<Fits, Refusal> {
+    let answer = asked::<{ sys::SCAN }>(|a, n| unsafe {
+        sys::lumeviqo_scan(number, page.as_ptr(), page.len(), shifted.as_mut_ptr(), shifted.len(), a, n)
+    });
+    layout::scan(&answer)
+}
+
+/// Puts new bytes into a sector of a stored page. The fits and the shifted bytes are then those of the new page.
+pub fn replace(
+    number: u64,
+    page: &mut [u8],
+    shifted: &mut [u8],
+    fits: &Fits,
+    sector: usize,
+    bytes: &[u8],
+) -> Result<Fits, Refusal> {
+    let fits = layout::fits_bytes(fits);
+    let answer = asked::<{ sys::SCAN }>(|a, n| unsafe {
+        sys::lumeviqo_replace(
+            number,
+            page.as_mut_ptr(),
+            page.len(),
+            shifted.as_mut_ptr(),
+            shifted.len(),
+            fits.as_ptr(),
+            fits.len(),
+            sector,
+            bytes.as_ptr(),
+            bytes.len(),
+            a,
+            n,
+        )
+    });
+    layout::scan(&answer)
+}
+
+/// Decodes a stored page; the plaintext goes to `out`. `anchors` are values of bv of other pages of the block.
+pub fn decode(number: u64, page: &[u8], anchors: &[u8], options: Options, out: &mut [u8]) -> Result<Decoding, Refusal> {
+    let answer = asked::<{ sys::DECODING }>(|a, n| unsafe {
+        sys::lumeviqo_decode(
+            number,
+            page.as_ptr(),
+            page.len(),
+            anchors.as_ptr(),
+            anchors.len(),
+            options.leniency.0,
+            options.min_trailer_count,
+            out.as_mut_ptr(),
+            out.len(),
+            a,
+            n,
+        )
+    });
+    layout::decoding(&answer)
+}
+
+/// Decodes a stored page from its summary.
+pub fn decode_summary(
+    number: u64,
+    page: &[u8],
+    fits: &Fits,
+    shifted: &[u8],
+    anchors: &[u8],
+    options: Options,
+    out: &mut [u8],
+) -> Result<Decoding, Refusal> {
+    let fits = layout::fits_bytes(fits);
+    let answer = asked::<{ sys::DECODING }>(|a, n| unsafe {
+        sys::lumeviqo_decode_summary(
+            number,
+            page.as_ptr(),
+            page.len(),
+            fits.as_ptr(),
+            fits.len(),
+            shifted.as_ptr(),
+            shifted.len(),
+            anchors.as_ptr(),
+            anchors.len(),
+            options.leniency.0,
+            options.min_trailer_count,
+            out.as_mut_ptr(),
+            out.len(),
+            a,
+            n,
+        )
+    });
+    layout::decoding(&answer)
+}
+
+/// Decodes a stored page with a given bv, and no check of its CRC.
+pub fn decode_supplied(number: u64, page: &[u8], bv: u8, options: Options, out: &mut [u8]) -> Result<Decoding, Refusal> {
+    let answer = asked::<{ sys::DECODING }>(|a, n| unsafe {
+        sys::lumeviqo_decode_supplied(
+            number,
+            page.as_ptr(),
+            page.len(),
+            bv,
+            options.leniency.0,
+            options.min_trailer_count,
+            out.as_mut_ptr(),
+            out.len(),
+            a,
+            n,
+        )
+    });
+    layout::decoding(&answer)
+}
+
+/// The same from its summary.
+pub fn decode_supplied_summary(
+    number: u64,
+    page: &[u8],
+    fits: &Fits,
+    shifted: &[u8],
+    bv: u8,
+    options: Options,
+    out: &mut [u8],
+) -> Result<Decoding, Refusal> {
+    let fits = layout::fits_bytes(fits);
+    let answer = asked::<{ sys::DECODING }>(|a, n| unsafe {
+        sys::lumeviqo_decode_supplied_summary(
+            number,
+            page.as_ptr(),
+            page.len(),
+            fits.as_ptr(),
+            fits.len(),
+            shifted.as_ptr(),
+            shifted.len(),
+            bv,
+            options.leniency.0,
+            options.min_trailer_count,
+            out.as_mut_ptr(),
+            out.len(),
+            a,
+            n,
+        )
+    });
+    layout::decoding(&answer)
+}
+
+/// The slot directory of a plain page.
+pub fn parse(number: u64, plain: &[u8], leniency: Leniency) -> Result<Parsed, Refusal> {
+    let answer =
+        asked::<{ sys::PARSE }>(|a, n| unsafe { sys::lumeviqo_parse(number, plain.as_ptr(), plain.len(), leniency.0, a, n) });
+    layout::parsed(&answer)
+}
+
+/// How many rows a plain page has.
+pub fn row_count(number: u64, plain: &[u8], leniency: Leniency) -> Result<usize, Refusal> {
+    let answer =
+        asked::<{ sys::ROW_COUNT }>(|a, n| unsafe { sys::lumeviqo_row_count(number, plain.as_ptr(), plain.len(), leniency.0, a, n) });
+    layout::row_count(&answer)
+}
+
+/// A row of a plain page. Rows ascend by offset, and the first is row 0.
+pub fn row(number: u64, plain: &[u8], leniency: Leniency, row: usize) -> Result<Row<'_>, Refusal> {
+    let answer =
+        asked::<{ sys::ROW }>(|a, n| unsafe { sys::lumeviqo_row(number, plain.as_ptr(), plain.len(), leniency.0, row, a, n) });
+    let (offset, end) = layout::row(&answer)?;
+    Ok(Row { offset, bytes: &plain[offset as usize..end as usize] })
+}
+
+/// All rows of a plain page.
+pub fn rows(number: u64, plain: &[u8], leniency: Leniency) -> Result<Vec<Row<'_>>, Refusal> {
+    (0..row_count(number, plain, leniency)?).map(|r| row(number, plain, leniency, r)).collect()
+}
+
+/// The answer of a function that writes N bytes of it.
+fn asked<const N: usize>(ask: impl FnOnce(*mut u8, usize) -> usize) -> [u8; N] {
+    let mut answer = [0; N];
+    let written = ask(answer.as_mut_ptr(), N);
+    assert_eq!(written, N, "the library and this crate differ in a layout");
+    answer
+}

@@ -1,0 +1,117 @@
+//! The crate over the library: pages of document 01, lengths, and refusals that leave buffers alone.
+use lumeviqo::*;
+
+/// Page 1, zero data, type 0x45, with its CRC.
+fn zero_data() -> [u8; PAGE] {
+    let mut page = [0; PAGE];
+    page[0xFF2] = 0x45;
+    let crc = crc32(&page[..4092]);
+    page[4092..].copy_from_slice(&crc.to_le_bytes());
+    page
+}
+
+/// Row count 5, its prelude at 0x40, slots at 0x44.
+fn slotted() -> [u8; PAGE] {
+    let mut plain = [0; PAGE];
+    plain[0x40] = 5;
+    plain[0xFF0] = 5;
+    for (k, slot) in [0x0F00u16, 0x0E00, 0x0D00, 0, 0x0C00].into_iter().enumerate() {
+        plain[0x44 + 2 * k..][..2].copy_from_slice(&slot.to_le_bytes());
+    }
+    plain
+}
+
+#[test]
+fn crc_of_the_nine_digits() {
+    assert_eq!(crc32(b"123456789"), 0xCBF4_3926);
+    assert_eq!(crc32(b""), 0);
+}
+
+#[test]
+fn zero_data_is_ambiguous() {
+    let mut out = [7; PAGE];
+    let refusal = decode(1, &zero_data(), &[], Options::default(), &mut out).unwrap_err();
+    assert_eq!(refusal, Refusal::AmbiguousCalibration { page: 1, candidates: (248..=255).collect() });
+    assert_eq!(out, [7; PAGE]);
+}
+
+/// Each value has a vote; 248 is sector 7's, which has fewer bytes.
+#[test]
+fn leniency_lets_the_ambiguous_through() {
+    let mut out = [7; PAGE];
+    let options = Options { leniency: Leniency::KEYSTREAM, ..Options::default() };
+    let d = decode(1, &zero_data(), &[], options, &mut out).unwrap();
+    assert_eq!((d.bv, d.source, d.confidence), (Some(249), Source::Histogram, Confidence::Unverified));
+    let kind = WarningKind::AmbiguousCalibration { chosen: 249, others: vec![248, 250, 251, 252, 253, 254, 255] };
+    assert_eq!(d.warnings, [Warning { page: 1, kind }]);
+    assert_eq!(out[4080..], zero_data()[4080..]);
+}
+
+#[test]
+fn an_unallocated_page_has_no_bv() {
+    let mut out = [7; PAGE];
+    let d = decode(5, &[0; PAGE], &[], Options::default(), &mut out).unwrap();
+    assert_eq!((d.bv, d.source, d.confidence), (None, Source::Unallocated, Confidence::Unallocated));
+    assert_eq!(d.evidence, [Evidence::Unallocated]);
+    assert_eq!(out, [0; PAGE]);
+}
+
+#[test]
+fn rows_of_a_directory() {
+    let plain = slotted();
+    let parsed = parse(3, &plain, Leniency::STRICT).unwrap();
+    let directory = parsed.directory.unwrap();
+    assert_eq!((directory.start, directory.end, directory.declared), (0x44, 0x4E, Some(5)));
+    assert_eq!(directory.slots, [0x0F00, 0x0E00, 0x0D00, 0, 0x0C00]);
+    let lengths: Vec<usize> = rows(3, &plain, Leniency::STRICT).unwrap().iter().map(|r| r.bytes.len()).collect();
+    assert_eq!(lengths, [256, 256, 256, 240]);
+    assert_eq!(row(3, &plain, Leniency::STRICT, 4).unwrap_err(), Refusal::NoSuchRow(4));
+}
+
+#[test]
+fn a_replaced_sector_is_read_as_the_whole_page() {
+    let mut page = zero_data();
+    let mut shifted = [0; SHIFTED];
+    let fits = scan(9, &page, &mut shifted).unwrap();
+    let sector: Vec<u8> = (0..512).map(|i| (i * 3 % 256) as u8).collect();
+    let fits = replace(9, &mut page, &mut shifted, &fits, 2, &sector).unwrap();
+    let mut fresh = [0; SHIFTED];
+    assert_eq!(scan(9, &page, &mut fresh).unwrap(), fits);
+    assert_eq!(fresh, shifted);
+    assert_eq!(replace(9, &mut page, &mut shifted, &fits, 8, &sector).unwrap_err(), Refusal::BadReplacement { sector: 8 });
+    assert_eq!(replace(9, &mut page, &mut shifted, &fits, 7, &sector).unwrap_err(), Refusal::BadReplacement { sector: 7 });
+}
+
+#[test]
+fn every_wrong_length_is_refused() {
+    let page = zero_data();
+    for n in [0, 1, 4095] {
+        assert_eq!(trailer(&page[..n]).unwrap_err(), Refusal::WrongPageLength(n));
+        assert_eq!(integrity(1, &page[..n]).unwrap_err(), Refusal::WrongPageLength(n));
+        assert_eq!(superblock(&page[..n]).unwrap_err(), Refusal::WrongPageLength(n));
+        assert_eq!(parse(1, &page[..n], Leniency::STRICT).unwrap_err(), Refusal::WrongPageLength(n));
+        assert_eq!(decode(1, &page, &[], Options::default(), &mut vec![0; n]).unwrap_err(), Refusal::WrongBufferLength(n));
+        assert_eq!(scan(1, &page, &mut vec![0; n]).unwrap_err(), Refusal::WrongBufferLength(n));
+    }
+}
+
+#[test]
+fn the_checked_superblock_wants_its_magic() {
+    let mut page = [0; PAGE];
+    assert_eq!(superblock_checked(&page).unwrap_err(), Refusal::BadMagic(0));
+    page[0x14..0x18].copy_from_slice(&[0x5E, 0xBA, 0x7A, 0xDA]);
+    page[100..133].copy_from_slice(b"SAP SE, Copyright (c)2015 17.0.4.");
+    let s = superblock_checked(&page).unwrap();
+    assert!(s.marker);
+    assert_eq!(superblock(&page).unwrap(), s);
+}
+
+#[test]
+fn page_types_keep_their_byte() {
+    let mut page = [0; PAGE];
+    for (byte, page_type, variant) in [(0x45, PageType::Extent, false), (0x65, PageType::Extent, true), (0x60, PageType::Other(0x60), false)] {
+        page[0xFF2] = byte;
+        let t = trailer(&page).unwrap();
+        assert_eq!((t.page_type, t.case_variant), (page_type, variant));
+    }
+}

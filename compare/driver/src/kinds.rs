@@ -1,0 +1,577 @@
+//! The kinds of input. Each is made from a stream of random numbers alone.
+use crate::plan::{DATA, Fill, LIMIT, Plan, fill, inexact, put, slots, write_directory};
+use crate::random::Random;
+
+/// One input, and what is asked about it.
+#[derive(Clone)]
+pub struct Case {
+    pub kind: &'static str,
+    pub number: u64,
+    pub page: Vec<u8>,
+    pub bits: u8,
+    pub anchors: Vec<u8>,
+    /// The bv that is supplied.
+    pub bv: u8,
+    /// A plain page that is parsed besides the decoded one.
+    pub plain: Option<Vec<u8>>,
+    pub replacements: Vec<(usize, Vec<u8>)>,
+}
+
+type Maker = fn(&mut Random) -> Case;
+
+/// Each kind with its share of the inputs.
+pub const KINDS: &[(&str, usize, Maker)] = &[
+    ("two exact sectors or more", 6, calibrated),
+    ("one exact sector", 5, corroborated),
+    ("no exact sector", 4, no_exact),
+    ("dissenting votes", 5, dissent),
+    ("dense sectors", 3, dense),
+    ("near the thresholds", 4, near),
+    ("tied steps", 3, tied),
+    ("prelude", 7, prelude),
+    ("truncated prelude", 4, truncated),
+    ("several preludes", 4, several),
+    ("offsets inside the directory", 4, inside),
+    ("scanned directory", 4, scanned),
+    ("row count 1 to 3", 4, few_rows),
+    ("edges of the search", 4, edges),
+    ("words of a directory", 5, words),
+    ("two verified", 5, two_verified),
+    ("verified and contested", 5, contested),
+    ("bad CRC", 3, bad_crc),
+    ("bad trailer", 3, bad_trailer),
+    ("all zero, or nearly", 2, zero),
+    ("superblock", 3, superblock),
+    ("random bytes", 2, random_bytes),
+    ("wrong lengths", 2, lengths),
+    ("replaced sectors", 4, replaced),
+    ("damaged copies", 6, damaged),
+];
+
+/// Input number `index` of a seed.
+pub fn case(seed: u64, index: u64) -> Case {
+    let mut r = Random::new(seed, index);
+    let (name, maker) = pick(&mut r);
+    let mut case = maker(&mut r);
+    case.kind = name;
+    case
+}
+
+fn pick(r: &mut Random) -> (&'static str, Maker) {
+    let mut at = r.below(KINDS.iter().map(|k| k.1).sum());
+    for &(name, share, maker) in KINDS {
+        if at < share {
+            return (name, maker);
+        }
+        at -= share;
+    }
+    unreachable!("the shares sum up")
+}
+
+/// The case of a plan, with options, anchors and a supplied bv that often fit it.
+fn case_of(r: &mut Random, plan: Plan) -> Case {
+    let plain = r.one_in(3).then(|| plan.plain());
+    Case {
+        kind: "",
+        number: plan.number,
+        page: plan.stored(),
+        bits: bits(r),
+        anchors: anchors(r, plan.bv),
+        bv: if r.one_in(4) { r.byte() } else { plan.bv },
+        plain,
+        replacements: Vec::new(),
+    }
+}
+
+fn bits(r: &mut Random) -> u8 {
+    match r.below(4) {
+        0 => r.byte(),
+        1 => r.below(8) as u8,
+        2 => 0,
+        _ => r.of(&[1, 1, 3, 7]),
+    }
+}
+
+/// None, the bv, its neighbours, or any bytes, up to 255.
+fn anchors(r: &mut Random, bv: u8) -> Vec<u8> {
+    match r.below(8) {
+        0..=2 => Vec::new(),
+        3 => vec![bv],
+        4 => (0..r.below(4)).map(|_| bv.wrapping_add(r.below(4) as u8)).collect(),
+        5 => {
+            let mut all = r.bytes(4);
+            all.extend([bv, bv]);
+            all
+        }
+        6 => {
+            let n = r.from_to(1, 255);
+            r.bytes(n)
+        }
+        _ => (0..=254).collect(),
+    }
+}
+
+/// Any fill in every sector but the first `from`.
+fn fill_rest(r: &mut Random, plan: &mut Plan, from: usize) {
+    for s in from..8 {
+        let how = if r.one_in(2) { Fill::Constant(0) } else { inexact(r) };
+        fill(r, plan.sector(s), how);
+    }
+}
+
+/// So many exact sectors of constant `c`, in random places.
+fn exact(r: &mut Random, plan: &mut Plan, from: usize, n: usize, c: u8) {
+    for _ in 0..n {
+        let s = r.from_to(from, 7);
+        fill(r, plan.sector(s), Fill::Constant(c));
+    }
+}
+
+fn all_inexact(r: &mut Random, plan: &mut Plan) {
+    for s in 0..8 {
+        let how = if r.one_in(6) { inexact(r) } else { Fill::Sparse(r.from_to(1, 200)) };
+        fill(r, plan.sector(s), how);
+    }
+}
+
+fn calibrated(r: &mut Random) -> Case {
+    let mut plan = Plan::new(r);
+    all_inexact(r, &mut plan);
+    let n = r.from_to(2, 12);
+    exact(r, &mut plan, 0, n, 0);
+    if r.one_in(3) {
+        plan.rows(r.byte());
+    }
+    case_of(r, plan)
+}
+
+/// One exact sector, which corroborates where the bv is top and anchored, and no other candidate is.
+fn corroborated(r: &mut Random) -> Case {
+    let mut plan = Plan::new(r);
+    for s in 0..8 {
+        let k = if r.one_in(20) { 400 } else { r.from_to(1, 150) };
+        fill(r, plan.sector(s), Fill::Sparse(k));
+    }
+    let c = if r.one_in(4) { r.byte() } else { 0 };
+    exact(r, &mut plan, 0, 1, c);
+    let bv = plan.bv;
+    let mut case = case_of(r, plan);
+    case.anchors = match r.below(6) {
+        0 => Vec::new(),
+        1 => vec![bv.wrapping_add(1)],
+        2 => (0..=255).map(|a: u8| a.wrapping_mul(7)).take(r.from_to(1, 255)).collect(),
+        3 => vec![bv, bv.wrapping_add(c), bv],
+        _ => vec![bv],
+    };
+    case
+}
+
+fn no_exact(r: &mut Random) -> Case {
+    let mut plan = Plan::new(r);
+    all_inexact(r, &mut plan);
+    case_of(r, plan)
+}
+
+fn dissent(r: &mut Random) -> Case {
+    let mut plan = Plan::new(r);
+    all_inexact(r, &mut plan);
+    let n = r.from_to(1, 6);
+    exact(r, &mut plan, 0, n, 0);
+    for _ in 0..r.from_to(1, 7) {
+        let c = r.of(&[1, 32, 255, 128, 3, 4, 5, 6, 7]);
+        exact(r, &mut plan, 0, 1, c);
+    }
+    if r.one_in(4) {
+        directory(r, &mut plan);
+    }
+    case_of(r, plan)
+}
+
+fn dense(r: &mut Random) -> Case {
+    let mut plan = Plan::new(r);
+    fill_rest(r, &mut plan, 0);
+    for _ in 0..r.from_to(1, 8) {
+        let s = r.below(8);
+        let how = if r.one_in(3) { Fill::Text } else { Fill::Dense };
+        fill(r, plan.sector(s), how);
+    }
+    case_of(r, plan)
+}
+
+fn near(r: &mut Random) -> Case {
+    let mut plan = Plan::new(r);
+    for _ in 0..r.from_to(1, 8) {
+        let s = r.below(8);
+        fill(r, plan.sector(s), Fill::Near);
+    }
+    case_of(r, plan)
+}
+
+fn tied(r: &mut Random) -> Case {
+    let mut plan = Plan::new(r);
+    for _ in 0..r.from_to(1, 8) {
+        let s = r.below(8);
+        fill(r, plan.sector(s), Fill::Tied);
+    }
+    case_of(r, plan)
+}
+
+/// A prelude with its slots in sectors 0 and 1, its rows behind it; the row count.
+fn directory(r: &mut Random, plan: &mut Plan) -> usize {
+    let n = match r.below(6) {
+        0 => r.from_to(4, 8),
+        1 => r.from_to(4, 255),
+        _ => r.from_to(4, 60),
+    };
+    let gap = r.of(&[4, 6]);
+    let field = r.below(0x2C0);
+    let end = (field + gap + 2 * n).min(4000);
+    let list = slots(r, n, end.max(0x20), 0xFF0);
+    write_directory(r, &mut plan.data, field, gap, n as u16, &list);
+    plan.rows(n as u8);
+    n
+}
+
+fn prelude(r: &mut Random) -> Case {
+    let mut plan = Plan::new(r);
+    let from = r.from_to(2, 8);
+    fill_rest(r, &mut plan, from);
+    if r.one_in(4) {
+        for b in plan.data[..LIMIT].iter_mut() {
+            *b = r.byte();
+        }
+    }
+    directory(r, &mut plan);
+    if r.one_in(8) {
+        plan.rows(r.byte());
+    }
+    case_of(r, plan)
+}
+
+fn truncated(r: &mut Random) -> Case {
+    let mut plan = Plan::new(r);
+    let from = r.from_to(2, 8);
+    fill_rest(r, &mut plan, from);
+    for _ in 0..r.from_to(1, 3) {
+        let n = r.from_to(4, 40);
+        let (field, gap) = (r.below(0x280), r.of(&[4, 6]));
+        let mut list = slots(r, n, 0x400, 0xFF0);
+        let at = r.below(n);
+        list[at] = r.of(&[0xFF0, 0xFFF, 1, 0x1F, 0xFEF, 0x8000]);
+        write_directory(r, &mut plan.data, field, gap, n as u16, &list);
+        plan.rows(n as u8);
+    }
+    case_of_page(r, plan)
+}
+
+fn several(r: &mut Random) -> Case {
+    let mut plan = Plan::new(r);
+    let from = r.from_to(2, 8);
+    fill_rest(r, &mut plan, from);
+    let n = r.from_to(1, 20);
+    for _ in 0..r.from_to(2, 4) {
+        let (field, gap) = (r.below(LIMIT), r.of(&[4, 6]));
+        let list = slots(r, n, 0x400, 0xFF0);
+        write_directory(r, &mut plan.data, field, gap, n as u16, &list);
+    }
+    plan.rows(n as u8);
+    case_of_page(r, plan)
+}
+
+fn inside(r: &mut Random) -> Case {
+    let mut plan = Plan::new(r);
+    let from = r.from_to(2, 8);
+    fill_rest(r, &mut plan, from);
+    let n = r.from_to(4, 120);
+    let (field, gap) = (r.from_to(0x20, 0x200), r.of(&[4, 6]));
+    let start = field + gap;
+    let mut list = slots(r, n, start + 2 * n + 4, 0xFF0);
+    // The last few point at the array, its edges, or before it.
+    let edge = [start - 2, start, start + 1, start + 2 * n - 1, start + 2 * n, 0x20, 0x1F];
+    let mut low: Vec<u16> = (0..r.from_to(1, 6)).map(|_| if r.one_in(2) { r.of(&edge) } else { r.from_to(start, start + 2 * n) } as u16).collect();
+    low.sort_unstable_by(|a, b| b.cmp(a));
+    let k = low.len().min(n - 1);
+    list[n - k..].copy_from_slice(&low[..k]);
+    let count = if r.one_in(4) { 0 } else { n };
+    write_directory(r, &mut plan.data, field, gap, count as u16, &list);
+    plan.rows(if r.one_in(4) { 0 } else { n as u8 });
+    case_of_page(r, plan)
+}
+
+fn scanned(r: &mut Random) -> Case {
+    let mut plan = Plan::new(r);
+    let from = r.from_to(2, 8);
+    fill_rest(r, &mut plan, from);
+    for _ in 0..r.from_to(1, 3) {
+        let n = r.of(&[3, 4, 5, 7, 8, 9, 30, 120]);
+        let at = r.below(LIMIT);
+        let list = slots(r, n, 0x300, 0xFF0);
+        for (k, &s) in list.iter().enumerate() {
+            put(&mut plan.data, at + 2 * k, s);
+        }
+    }
+    plan.rows(r.of(&[0, 0, 0, 4, 5, 30, 255]));
+    case_of_page(r, plan)
+}
+
+fn few_rows(r: &mut Random) -> Case {
+    let mut plan = Plan::new(r);
+    let from = r.from_to(2, 8);
+    fill_rest(r, &mut plan, from);
+    let n = r.from_to(1, 3);
+    for _ in 0..r.below(4) {
+        let list = slots(r, n, 0x300, 0xFF0);
+        let (field, gap) = (r.below(LIMIT), r.of(&[4, 6]));
+        write_directory(r, &mut plan.data, field, gap, n as u16, &list);
+    }
+    plan.rows(n as u8);
+    case_of_page(r, plan)
+}
+
+/// Fields about the limit of the search, arrays that cross it, slots about the least and the greatest offset.
+fn edges(r: &mut Random) -> Case {
+    let mut plan = Plan::new(r);
+    let from = r.from_to(3, 8);
+    fill_rest(r, &mut plan, from);
+    let n = r.of(&[1, 3, 4, 5, 8, 40, 254, 255]);
+    let field = r.of(&[0, 1, 2, 0x2F0, 0x2F6, 0x2F7, 0x2F8, 0x2F9, 0x2FA, 0x2FB, 0x2FC, 0x2FD, 0x2FE, 0x2FF, 0x300, 0x301]);
+    let (bottom, top) = (r.of(&[0x1E, 0x20, 0x21, 0x400]), r.of(&[0xFEF, 0xFF0, 0xFF1, 0x1000, 0xE00]));
+    let list = slots(r, n, bottom, top);
+    let gap = r.of(&[4, 6]);
+    write_directory(r, &mut plan.data, field, gap, n as u16, &list);
+    plan.rows(if r.one_in(6) { 0 } else { n as u8 });
+    case_of_page(r, plan)
+}
+
+/// The search region from a few kinds of words only: zeros, falling offsets, the row count, others.
+fn words(r: &mut Random) -> Case {
+    let mut plan = Plan::new(r);
+    let from = r.from_to(2, 8);
+    fill_rest(r, &mut plan, from);
+    let n = r.of(&[0, 1, 2, 4, 4, 5, 6, 8]);
+    let mut at = r.below(2);
+    let mut prev = 0xFF0;
+    while at < LIMIT + 8 {
+        let w = match r.below(10) {
+            0 | 1 => 0,
+            2 => n as usize,
+            3 => {
+                prev = r.from_to(0x20, 0xFEF);
+                prev
+            }
+            4 => r.of(&[0x1F, 0x20, 0xFEF, 0xFF0, 0x101, 0xF00]),
+            _ => {
+                prev = prev.saturating_sub(r.from_to(0, 40));
+                prev
+            }
+        };
+        put(&mut plan.data, at, w as u16);
+        at += if r.one_in(20) { 1 } else { 2 };
+    }
+    plan.rows(n);
+    case_of_page(r, plan)
+}
+
+/// Two directories, each of which reads under a bv of its own; both are candidates.
+fn two_verified(r: &mut Random) -> Case {
+    let mut plan = Plan::new(r);
+    let n = r.from_to(4, 30);
+    let d = r.of(&[0x40, 0x55, 0x80, 0xA0, 0xC0]);
+    let second = r.from_to(0x160, 0x200);
+    let first = r.below(0x20);
+    for (field, less) in [(first, 0), (second, d)] {
+        let gap = r.of(&[4, 6]);
+        let list = slots(r, n, 0x400, 0xFF0);
+        write_directory(r, &mut plan.data, field, gap, n as u16, &list);
+        for b in &mut plan.data[field..field + gap + 2 * n] {
+            *b = b.wrapping_add(less);
+        }
+    }
+    for s in 2..8 {
+        match r.below(4) {
+            0 => fill(r, plan.sector(s), Fill::Constant(d)),
+            1 => {
+                for b in plan.sector(s).iter_mut().step_by(3) {
+                    *b = d;
+                }
+            }
+            2 => fill(r, plan.sector(s), Fill::Sparse(30)),
+            _ => {}
+        }
+    }
+    plan.rows(n as u8);
+    case_of(r, plan)
+}
+
+/// A directory that reads under bv, and another value that has two votes, or is top and anchored.
+fn contested(r: &mut Random) -> Case {
+    let mut plan = Plan::new(r);
+    let n = r.from_to(4, 60);
+    let d = r.byte();
+    let list = slots(r, n, 0x400, 0xFF0);
+    let (field, gap) = (r.below(0x100), r.of(&[4, 6]));
+    write_directory(r, &mut plan.data, field, gap, n as u16, &list);
+    for s in 2..8 {
+        match r.below(6) {
+            0 | 1 => fill(r, plan.sector(s), Fill::Constant(d)),
+            2 | 3 => {
+                fill(r, plan.sector(s), Fill::Constant(d));
+                let k = r.from_to(1, 90);
+                for _ in 0..k {
+                    let at = r.below(490);
+                    plan.sector(s)[at] = r.byte();
+                }
+            }
+            4 => fill(r, plan.sector(s), Fill::Sparse(60)),
+            _ => {}
+        }
+    }
+    plan.rows(n as u8);
+    let bv = plan.bv;
+    let mut case = case_of(r, plan);
+    if r.one_in(2) {
+        case.anchors = vec![bv.wrapping_add(d)];
+    }
+    case
+}
+
+fn bad_crc(r: &mut Random) -> Case {
+    let mut plan = Plan::new(r);
+    fill_rest(r, &mut plan, 0);
+    plan.off = 1 << r.below(32);
+    if r.one_in(3) {
+        plan.trailer[3] = 1;
+    }
+    if r.one_in(3) {
+        directory(r, &mut plan);
+    }
+    case_of(r, plan)
+}
+
+fn bad_trailer(r: &mut Random) -> Case {
+    let mut plan = Plan::new(r);
+    fill_rest(r, &mut plan, 0);
+    let at = r.of(&[3, 8, 9, 10, 11]);
+    plan.trailer[at] = r.from_to(1, 255) as u8;
+    if r.one_in(3) {
+        directory(r, &mut plan);
+    }
+    case_of(r, plan)
+}
+
+/// All 4,096 bytes zero; or all but the trailer; or all but one byte.
+fn zero(r: &mut Random) -> Case {
+    let mut case = {
+        let plan = Plan::new(r);
+        case_of_page(r, plan)
+    };
+    let trailer = case.page[DATA..].to_vec();
+    case.page = vec![0; 4096];
+    match r.below(4) {
+        0 => {}
+        1 => {
+            case.page[DATA..].copy_from_slice(&trailer);
+            recrc(&mut case.page);
+        }
+        2 => case.page[r.below(4096)] = r.from_to(1, 255) as u8,
+        _ => {
+            case.page[0xFF2] = 0x45;
+            recrc(&mut case.page);
+        }
+    }
+    case
+}
+
+fn superblock(r: &mut Random) -> Case {
+    let mut plan = Plan::new(r);
+    plan.number = 0;
+    for b in plan.data.iter_mut().take(0x40) {
+        *b = r.byte();
+    }
+    let mut case = case_of_page(r, plan);
+    if !r.one_in(3) {
+        let magic: u32 = if r.one_in(4) { 0xDA7A_BA5E ^ (1 << r.below(32)) } else { 0xDA7A_BA5E };
+        case.page[0x14..0x18].copy_from_slice(&magic.to_le_bytes());
+    }
+    let marker = b"SAP SE, Copyright (c)2015 17.0.4.";
+    if !r.one_in(3) {
+        let at = r.of(&[0, 1, 0x400, 4096 - 33, 4096 - 34, 4096 - 33, 2000]);
+        case.page[at..at + 33].copy_from_slice(marker);
+        if r.one_in(3) {
+            case.page[at + r.below(33)] ^= 1;
+        }
+    }
+    recrc(&mut case.page);
+    case
+}
+
+fn random_bytes(r: &mut Random) -> Case {
+    let plan = Plan::new(r);
+    let mut case = case_of_page(r, plan);
+    case.page = r.bytes(4096);
+    if !r.one_in(3) {
+        case.page[0xFF3] = 0;
+        case.page[0xFF8..0xFFC].fill(0);
+        recrc(&mut case.page);
+    }
+    case.plain = Some(r.bytes(4096));
+    case
+}
+
+/// About every length that is asked for.
+fn lengths(r: &mut Random) -> Case {
+    let mut case = calibrated(r);
+    let n = r.of(&[0, 1, 2, 3, 495, 496, 511, 512, 4079, 4080, 4081, 4092, 4095, 4097, 8192]);
+    case.page.resize(n, 0);
+    case.plain = Some(case.page.clone());
+    case
+}
+
+/// Sectors that come from another page, or come back, some of them refused.
+fn replaced(r: &mut Random) -> Case {
+    let mut case = prelude(r);
+    let other = calibrated(r).page;
+    let good = case.page.clone();
+    for _ in 0..r.from_to(1, 10) {
+        let s = if r.one_in(8) { r.of(&[8, 9, 255, usize::MAX]) } else { r.below(8) };
+        let n = if s == 7 { 496 } else { 512 };
+        let from = if r.one_in(2) { &other } else { &good };
+        let at = s.min(7) * 512;
+        let mut bytes = from[at..(at + n).min(4096)].to_vec();
+        bytes.resize(if r.one_in(10) { r.of(&[0, 495, 497, 511, 513]) } else { n }, 0);
+        case.replacements.push((s, bytes));
+    }
+    case
+}
+
+/// Another kind's page with some of its bytes changed, the CRC left, or set right.
+fn damaged(r: &mut Random) -> Case {
+    let makers: [Maker; 8] = [calibrated, corroborated, dissent, prelude, several, two_verified, contested, words];
+    let mut case = makers[r.below(makers.len())](r);
+    for _ in 0..r.from_to(1, 6) {
+        let at = if r.one_in(3) { r.below(LIMIT) } else { r.below(4096) };
+        let n = r.of(&[1, 1, 2, 4, 16, 200]).min(4096 - at);
+        for b in &mut case.page[at..at + n] {
+            *b = r.byte();
+        }
+    }
+    if !r.one_in(3) {
+        case.page[0xFF3] = 0;
+        case.page[0xFF8..0xFFC].fill(0);
+        recrc(&mut case.page);
+    }
+    case
+}
+
+fn case_of_page(r: &mut Random, plan: Plan) -> Case {
+    let plain = plan.plain();
+    let mut case = case_of(r, plan);
+    case.plain = Some(plain);
+    case
+}
+
+/// The page with its CRC set right.
+pub fn recrc(page: &mut [u8]) {
+    let crc = oracle::crc32(&page[..4092]);
+    page[4092..4096].copy_from_slice(&crc.to_le_bytes());
+}

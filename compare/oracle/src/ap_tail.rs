@@ -1,0 +1,49 @@
+
+/// Appended to the original's ap.rs for the comparison: a page's scan, and what `ApModel::deobfuscate` makes of it, in its order, with the
+/// anchors given instead of searched for in the block.
+pub mod reached {
+    use super::*;
+
+    /// A page and its scan.
+    pub struct Scanned<'a> {
+        page: Page<'a>,
+        scan: PageScan,
+    }
+
+    impl<'a> Scanned<'a> {
+        pub fn new(page: Page<'a>) -> Self {
+            Scanned { page, scan: scan_page(page.bytes(), page.index()) }
+        }
+
+        pub fn fits(&self) -> [(u8, usize, usize, bool); SECTORS_PER_PAGE] {
+            std::array::from_fn(|s| {
+                let s = &self.scan.sectors[s];
+                (s.step, s.peak, s.runner_up, s.is_exact())
+            })
+        }
+
+        pub fn shifted(&self) -> Vec<u8> {
+            self.scan.sectors.iter().flat_map(|s| s.m.iter().copied()).collect()
+        }
+
+        pub fn deobfuscate(&self, anchors: &BTreeSet<u8>, opts: &ReadOptions) -> Result<DeobfuscatedPage> {
+            let (page, pn) = (self.page, self.page.index());
+            if page.is_unallocated() {
+                return Ok(unallocated_page(page));
+            }
+            let mut warnings = Vec::new();
+            if let Err(err) = check_integrity(page) {
+                if !opts.leniency.contains(Leniency::INTEGRITY) {
+                    return Err(err);
+                }
+                warnings.push(integrity_warning(&err, pn));
+            }
+            let choice = choose_bv(&self.scan, page.bytes(), pn, anchors, opts, &mut warnings)?;
+            finish(page, &self.scan, choice, opts, warnings)
+        }
+    }
+
+    pub fn integrity(page: Page<'_>) -> Result<()> {
+        check_integrity(page)
+    }
+}

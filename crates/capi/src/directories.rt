@@ -1,0 +1,140 @@
+// A parse, a number of rows and a row, written at the front of a buffer that has room for them.
+ghost use mathlib.Core.Path.{_≡_};
+ghost use Prim.Native.Nat.{_+_, _≤_};
+ghost use lib.ListN.{length};
+ghost use Rattle.lists.specs.Pieces.{over};
+ghost use Rattle.capi.specs.Parts.{warningsBytes};
+ghost use Rattle.capi.specs.Layouts.{declaredFlag, declaredCount, directoryBytes, slotsBytes, parseBytes, rowCountBytes, spanStart, spanEnd, rowBytes};
+use crate::numbers::pair_bytes;
+use crate::numbers::short_bytes;
+use crate::parts::bit;
+use crate::parts::warning_bytes;
+use crate::puts::put;
+use crate::puts::put_answer;
+use answers::Answer;
+use answers::Warning;
+use slotted::Declared;
+use slotted::Parsed;
+use slotted::SlotDirectory;
+use slotted::Span;
+
+pub(crate) fn write_parse(out: &mut [u8], p: Parsed)
+    requires { ⌜ 919 ≤ length (now out) ⌝ }
+    ensures { λ r. ⌜ now (out .exit) ≡ over (now (out .entry)) 0 (parseBytes p) ⌝ }
+{
+    let x = p.answer;
+    let directory = p.directory;
+    let slots = directory.slots;
+    let warnings = p.warnings;
+    let items = warnings.items;
+    let head = directory_bytes(p.found, directory);
+    let count = short_bytes(warnings.len);
+    put_answer(out, x);
+    put(out, 40, &head);
+    put_slots(out, 50, slots);
+    put(out, 818, &count);
+    put_first_warnings(out, 820, items);
+}
+
+pub(crate) fn write_row_count(out: &mut [u8], x: Answer, n: usize)
+    requires { ⌜ 42 ≤ length (now out) ⌝ }
+    ensures { λ r. ⌜ now (out .exit) ≡ over (now (out .entry)) 0 (rowCountBytes x n) ⌝ }
+{
+    let count = short_bytes(n);
+    put_answer(out, x);
+    put(out, 40, &count);
+}
+
+pub(crate) fn write_row(out: &mut [u8], x: Answer, s: Span)
+    requires { ⌜ 44 ≤ length (now out) ⌝ }
+    ensures { λ r. ⌜ now (out .exit) ≡ over (now (out .entry)) 0 (rowBytes x s) ⌝ }
+{
+    let start = short_bytes(span_start(s));
+    let end = short_bytes(span_end(s));
+    put_answer(out, x);
+    put(out, 40, &start);
+    put(out, 42, &end);
+}
+
+fn directory_bytes(found: bool, d: SlotDirectory) -> [u8; 10]
+    ensures { λ r. ⌜ r ≡ directoryBytes found d ⌝ }
+{
+    let declared = d.declared;
+    let a = short_bytes(d.array_start);
+    let e = short_bytes(d.end);
+    let n = short_bytes(d.len);
+    let k = short_bytes(declared_count(declared));
+    [
+        bit(found),
+        a[0],
+        a[1],
+        e[0],
+        e[1],
+        n[0],
+        n[1],
+        declared_flag(declared),
+        k[0],
+        k[1],
+    ]
+}
+
+fn put_slots(out: &mut [u8], at: usize, slots: [u16; 384])
+    requires { ⌜ at + 768 ≤ length (now out) ⌝ }
+    ensures { λ r. ⌜ now (out .exit) ≡ over (now (out .entry)) at (slotsBytes slots) ⌝ }
+{
+    let mut s: usize = 0;
+    while s < 384 {
+        let bytes = pair_bytes(slots[s]);
+        put(out, at + 2 * s, &bytes);
+        s += 1;
+    }
+}
+
+// A parse has three warnings at most.
+fn put_first_warnings(out: &mut [u8], at: usize, items: [Warning; 386])
+    requires { ⌜ at + 99 ≤ length (now out) ⌝ }
+    ensures { λ r. ⌜ now (out .exit) ≡ over (now (out .entry)) at (warningsBytes items 3) ⌝ }
+{
+    let mut s: usize = 0;
+    while s < 3 {
+        let bytes = warning_bytes(items[s]);
+        put(out, at + 33 * s, &bytes);
+        s += 1;
+    }
+}
+
+fn declared_flag(d: Declared) -> u8
+    ensures { λ r. ⌜ r ≡ declaredFlag d ⌝ }
+{
+    match d {
+        Declared::Count(_) => 1,
+        Declared::Scanned => 0,
+    }
+}
+
+fn declared_count(d: Declared) -> usize
+    ensures { λ r. ⌜ r ≡ declaredCount d ⌝ }
+{
+    match d {
+        Declared::Count(n) => n,
+        Declared::Scanned => 0,
+    }
+}
+
+fn span_start(s: Span) -> usize
+    ensures { λ r. ⌜ r ≡ spanStart s ⌝ }
+{
+    match s {
+        Span::At { offset, end: _ } => offset,
+        Span::NoRow => 0,
+    }
+}
+
+fn span_end(s: Span) -> usize
+    ensures { λ r. ⌜ r ≡ spanEnd s ⌝ }
+{
+    match s {
+        Span::At { offset: _, end } => end,
+        Span::NoRow => 0,
+    }
+}
