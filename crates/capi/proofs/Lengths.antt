@@ -15,9 +15,9 @@ use Rattle.choice.specs.declared.Choice.{Choice}
 use Rattle.answers.specs.declared.trust.Ground.{Ground}
 use Rattle.answers.specs.declared.notices.Warning.{Warning}
 use Rattle.sector.specs.declared.fits.Fit.{Fit}
-use Rattle.capi.specs.Numbers.{bytes2, bytes4, bytes8}
-use Rattle.capi.specs.Parts.{answerBytes, fitBytes, fitEntry, groundBytes, groundEntry, warningBytes, warningEntry, fitsBytes, groundsBytes, warningsBytes}
-use Rattle.capi.specs.Layouts.{recordBytes, fieldBytes, bvsBytes, headBytes, choiceBytes, slotEntry, slotsBytes, directoryBytes}
+use Rattle.layout.specs.Numbers.{bytes2, bytes4, bytes8}
+use Rattle.layout.specs.Parts.{answerBytes, fitBytes, fitEntry, groundBytes, groundEntry, warningBytes, warningEntry, fitsBytes, groundsBytes, warningsBytes}
+use Rattle.layout.specs.Layouts.{recordBytes, fieldBytes, bvsBytes, headBytes, choiceBytes, slotEntry, slotsBytes, directoryBytes}
 use Rattle.capi.proofs.Wrote.{joined-long}
 
 pub answer-long : (x : Answer) → length (answerBytes x) ≡ 40

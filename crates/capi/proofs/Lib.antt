@@ -1,5 +1,4 @@
--- Laws of the layouts.
+-- Laws of buffers that answers are written to.
 pub mod Wrote
 pub mod Lengths
-pub mod Made
 pub mod Told

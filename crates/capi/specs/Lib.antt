@@ -1,6 +1,2 @@
--- The byte layouts of include/lumeviqo.h.
-pub mod Numbers
-pub mod Places
-pub mod Parts
-pub mod Layouts
+-- What becomes of the buffers that a caller lends.
 pub mod Buffers

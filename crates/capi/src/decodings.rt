@@ -5,7 +5,7 @@ ghost use Rattle.lists.specs.Cases.{pick};
 ghost use Rattle.answers.specs.Settings.{optionsOf};
 ghost use Rattle.summary.specs.Page.{fitsOf, bytesOf};
 ghost use Rattle.decode.specs.Decode.{decodingOf, suppliedDecodingOf, writtenOf};
-ghost use Rattle.capi.specs.Layouts.{decodingBytes};
+ghost use Rattle.layout.specs.Layouts.{decodingBytes};
 ghost use Rattle.capi.specs.Buffers.{hasRoom, hasFits, told, fitsIn};
 use crate::lent::fits_in;
 use crate::writes::write_decoding;

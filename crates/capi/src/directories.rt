@@ -3,19 +3,19 @@ ghost use mathlib.Core.Path.{_≡_};
 ghost use Prim.Native.Nat.{_+_, _≤_};
 ghost use lib.ListN.{length};
 ghost use Rattle.lists.specs.Pieces.{over};
-ghost use Rattle.capi.specs.Parts.{warningsBytes};
-ghost use Rattle.capi.specs.Layouts.{declaredFlag, declaredCount, directoryBytes, slotsBytes, parseBytes, rowCountBytes, spanStart, spanEnd, rowBytes};
-use crate::numbers::pair_bytes;
-use crate::numbers::short_bytes;
-use crate::parts::bit;
-use crate::parts::warning_bytes;
+ghost use Rattle.layout.specs.Parts.{warningsBytes};
+ghost use Rattle.layout.specs.Layouts.{slotsBytes, parseBytes, rowCountBytes, rowBytes};
 use crate::puts::put;
 use crate::puts::put_answer;
 use answers::Answer;
 use answers::Warning;
-use slotted::Declared;
+use layout::directory_bytes;
+use layout::pair_bytes;
+use layout::short_bytes;
+use layout::span_end;
+use layout::span_start;
+use layout::warning_bytes;
 use slotted::Parsed;
-use slotted::SlotDirectory;
 use slotted::Span;
 
 pub(crate) fn write_parse(out: &mut [u8], p: Parsed)
@@ -56,28 +56,6 @@ pub(crate) fn write_row(out: &mut [u8], x: Answer, s: Span)
     put(out, 42, &end);
 }
 
-fn directory_bytes(found: bool, d: SlotDirectory) -> [u8; 10]
-    ensures { λ r. ⌜ r ≡ directoryBytes found d ⌝ }
-{
-    let declared = d.declared;
-    let a = short_bytes(d.array_start);
-    let e = short_bytes(d.end);
-    let n = short_bytes(d.len);
-    let k = short_bytes(declared_count(declared));
-    [
-        bit(found),
-        a[0],
-        a[1],
-        e[0],
-        e[1],
-        n[0],
-        n[1],
-        declared_flag(declared),
-        k[0],
-        k[1],
-    ]
-}
-
 fn put_slots(out: &mut [u8], at: usize, slots: [u16; 384])
     requires { ⌜ at + 768 ≤ length (now out) ⌝ }
     ensures { λ r. ⌜ now (out .exit) ≡ over (now (out .entry)) at (slotsBytes slots) ⌝ }
@@ -100,41 +78,5 @@ fn put_first_warnings(out: &mut [u8], at: usize, items: [Warning; 386])
         let bytes = warning_bytes(items[s]);
         put(out, at + 33 * s, &bytes);
         s += 1;
-    }
-}
-
-fn declared_flag(d: Declared) -> u8
-    ensures { λ r. ⌜ r ≡ declaredFlag d ⌝ }
-{
-    match d {
-        Declared::Count(_) => 1,
-        Declared::Scanned => 0,
-    }
-}
-
-fn declared_count(d: Declared) -> usize
-    ensures { λ r. ⌜ r ≡ declaredCount d ⌝ }
-{
-    match d {
-        Declared::Count(n) => n,
-        Declared::Scanned => 0,
-    }
-}
-
-fn span_start(s: Span) -> usize
-    ensures { λ r. ⌜ r ≡ spanStart s ⌝ }
-{
-    match s {
-        Span::At { offset, end: _ } => offset,
-        Span::NoRow => 0,
-    }
-}
-
-fn span_end(s: Span) -> usize
-    ensures { λ r. ⌜ r ≡ spanEnd s ⌝ }
-{
-    match s {
-        Span::At { offset: _, end } => end,
-        Span::NoRow => 0,
     }
 }

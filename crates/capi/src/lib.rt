@@ -2,15 +2,11 @@
 // to the buffer `answer`, in a layout of bytes. Where that buffer is too short nothing is called, and nothing is written.
 mod decodings;
 mod directories;
-mod fields;
 mod lent;
-mod numbers;
 mod pages;
-mod parts;
 mod puts;
 mod rows;
 mod summaries;
-mod values;
 mod writes;
 
 pub use decodings::lumeviqo_decode;

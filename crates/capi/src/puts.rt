@@ -3,14 +3,14 @@ ghost use mathlib.Core.Path.{_≡_};
 ghost use Prim.Native.Nat.{_+_, _≤_};
 ghost use lib.ListN.{length};
 ghost use Rattle.lists.specs.Pieces.{over};
-ghost use Rattle.capi.specs.Parts.{answerBytes, fitsBytes, groundsBytes, warningsBytes};
-use crate::parts::answer_bytes;
-use crate::parts::fit_bytes;
-use crate::parts::ground_bytes;
-use crate::parts::warning_bytes;
+ghost use Rattle.layout.specs.Parts.{answerBytes, fitsBytes, groundsBytes, warningsBytes};
 use answers::Answer;
 use answers::Ground;
 use answers::Warning;
+use layout::answer_bytes;
+use layout::fit_bytes;
+use layout::ground_bytes;
+use layout::warning_bytes;
 use sector::Fit;
 
 // `bytes` in the place of as many bytes of the buffer.

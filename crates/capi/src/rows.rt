@@ -5,7 +5,7 @@ ghost use Rattle.lists.specs.Bytes.{hasBit};
 ghost use Rattle.lists.specs.Cases.{pick};
 ghost use Rattle.slotted.specs.Parses.{parsedOf};
 ghost use Rattle.slotted.specs.RowAnswers.{rowsOf, rowOf, rowAnswerOf};
-ghost use Rattle.capi.specs.Layouts.{parseBytes, rowCountBytes, rowBytes};
+ghost use Rattle.layout.specs.Layouts.{parseBytes, rowCountBytes, rowBytes};
 ghost use Rattle.capi.specs.Buffers.{hasRoom, told};
 use crate::directories::write_parse;
 use crate::directories::write_row;

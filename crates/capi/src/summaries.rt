@@ -4,7 +4,7 @@ ghost use lib.ListN.{length};
 ghost use Rattle.lists.specs.Cases.{pick};
 ghost use Rattle.summary.specs.Page.{scanOf, scanned};
 ghost use Rattle.summary.specs.Replace.{replaced, storedAfter, shiftedAfter};
-ghost use Rattle.capi.specs.Layouts.{scanBytes, changedBytes};
+ghost use Rattle.layout.specs.Layouts.{scanBytes, changedBytes};
 ghost use Rattle.capi.specs.Buffers.{hasRoom, hasFits, told, fitsIn};
 use crate::lent::fits_in;
 use crate::writes::write_changed;

@@ -1,86 +1,247 @@
-//! freeze SEED STDIN STDOUT: frames of `report`, and the lines that it must print, both from the original. A frame is taken where it
-//! shows something that no frame before it does: an answer, a source, a confidence, a kind of evidence or of warning, a count of either,
-//! a page number's residue, an option bit. Malformed lines stand between, each with its `11`.
+//! freeze SEED FOLDER: the questions and answers of the program `frozen`, as FOLDER/stdin and FOLDER/stdout, all from the original; where it
+//! has no counterpart (lengths of lent buffers, replacement, row numbers) from document 01. A question is taken where it shows something that
+//! none before it does: a function's answer or reason, a source with its confidence, a row of evidence, a kind of warning, a type of page.
 use std::collections::BTreeSet;
 use std::fs::write;
+use std::path::Path;
 
 use compare::kinds::{Case, case};
+use compare::layouts;
 use compare::shrink::hex;
-use oracle::{Decoded, Reading, Refusal};
+use oracle::{Decoded, Fit, Parsed, Reading, Refusal, Warning};
+
+/// As the program `frozen` numbers them.
+#[derive(Clone, Copy, Debug)]
+enum Asked {
+    Crc = 1,
+    Trailer,
+    Integrity,
+    Superblock,
+    SuperblockChecked,
+    Scan,
+    Replacement,
+    Decoding,
+    Supplied,
+    Parse,
+    RowCount,
+    Row,
+}
+
+struct Question<'a> {
+    asked: Asked,
+    case: &'a Case,
+    page: &'a [u8],
+    place: usize,
+    /// How long the buffer is that the plaintext or the shifted bytes go to.
+    room: usize,
+    bytes: &'a [u8],
+}
+
+/// What a question must be answered, and what it shows.
+struct Expected {
+    line: String,
+    shows: Vec<String>,
+}
+
+#[derive(Default)]
+struct Frozen {
+    shown: BTreeSet<String>,
+    stdin: Vec<u8>,
+    stdout: String,
+    questions: usize,
+}
+
+impl Frozen {
+    fn take(&mut self, q: Question<'_>, expected: Expected) {
+        let before = self.shown.len();
+        self.shown.extend(expected.shows.iter().map(|s| format!("{:?}: {s}", q.asked)));
+        if self.shown.len() > before {
+            self.stdin.extend(question(&q));
+            self.stdout += &expected.line;
+            self.stdout.push('\n');
+            self.questions += 1;
+        }
+    }
+}
 
 fn main() {
     let args: Vec<String> = std::env::args().collect();
-    let [_, seed, stdin, stdout] = &args[..] else {
-        eprintln!("usage: freeze SEED STDIN STDOUT");
+    let [_, seed, folder] = &args[..] else {
+        eprintln!("usage: freeze SEED FOLDER");
         std::process::exit(2);
     };
     let seed = seed.parse().expect("SEED is a number");
-    let mut shown = BTreeSet::new();
-    let (mut lines, mut expected) = (Vec::new(), Vec::new());
-    let mut malformed = MALFORMED.iter();
+    let mut frozen = Frozen::default();
     for index in 0..20_000 {
         let case = case(seed, index);
-        if case.page.len() != 4096 || case.anchors.len() > 255 {
-            continue;
+        fields(&case, &mut frozen);
+        if case.page.len() == 4096 {
+            whole_page(&case, &mut frozen);
         }
-        let reading = Reading::new(case.number, &case.page).expect("its length is right");
-        let answer = reading.decode(&case.anchors, case.bits);
-        let before = shown.len();
-        shown.extend(shows(&case, &answer));
-        if shown.len() == before {
-            continue;
-        }
-        lines.push(frame(&case));
-        expected.push(line(&case, &answer));
-        if let Some(bad) = malformed.next() {
-            lines.push(bad.to_string());
-            expected.push("11".to_string());
+        if let Some(plain) = &case.plain {
+            rows(&case, plain, &mut frozen);
         }
     }
-    println!("{} frames, which show {} things", lines.len(), shown.len());
-    write(stdin, lines.join("\n") + "\n").expect("STDIN can be written");
-    write(stdout, expected.join("\n") + "\n").expect("STDOUT can be written");
+    println!("{} questions, which show {} things", frozen.questions, frozen.shown.len());
+    write(Path::new(folder).join("stdin"), frozen.stdin).expect("FOLDER/stdin can be written");
+    write(Path::new(folder).join("stdout"), frozen.stdout).expect("FOLDER/stdout can be written");
 }
 
-/// Empty; blanks; a prefix; an odd number of digits; a frame that is too short; one with a letter that is no digit.
-const MALFORMED: [&str; 6] = ["", " ", "0x00", "000", "0000000000000005000400", "0000000000000005000400g0"];
-
-fn shows(case: &Case, answer: &Result<Decoded, Refusal>) -> Vec<String> {
-    let mut out = vec![format!("residue {}", case.number % 16), format!("bits {}", case.bits & 7)];
-    match answer {
-        Err(r) => out.push(format!("answer {} of {} candidates", r.number, r.candidates.len())),
-        Ok(d) => {
-            out.push(format!("source {} confidence {}", d.source, d.confidence));
-            out.push(format!("{} warnings", d.warnings.len()));
-            let numbers: Vec<u8> = d.evidence.iter().map(|e| e.0).collect();
-            out.push(format!("evidence {numbers:?}"));
-            out.extend(d.warnings.iter().map(|w| format!("warning {}", w.number)));
-        }
+/// A question as the program reads it.
+fn question(q: &Question<'_>) -> Vec<u8> {
+    let anchors = &q.case.anchors[..q.case.anchors.len().min(255)];
+    let mut out = vec![q.asked as u8];
+    out.extend(q.case.number.to_le_bytes());
+    out.extend([q.case.bits, 4, q.case.bv]);
+    for n in [q.place, q.page.len(), anchors.len(), q.bytes.len(), q.room] {
+        out.extend((n as u16).to_le_bytes());
+    }
+    for part in [q.page, anchors, q.bytes] {
+        out.extend(part);
     }
     out
 }
 
-fn frame(case: &Case) -> String {
-    let mut bytes = case.number.to_be_bytes().to_vec();
-    bytes.extend([case.bits, 4, case.anchors.len() as u8]);
-    bytes.extend(&case.anchors);
-    bytes.extend(&case.page);
-    hex(&bytes)
+fn about<'a>(asked: Asked, case: &'a Case, page: &'a [u8]) -> Question<'a> {
+    Question { asked, case, page, place: 0, room: 4096, bytes: &[] }
 }
 
-/// The report line of document 01.
-fn line(case: &Case, answer: &Result<Decoded, Refusal>) -> String {
-    let mut out = vec![answer.as_ref().map_or_else(|r| r.number, |_| 0)];
-    out.extend(case.number.to_be_bytes());
-    if let Ok(d) = answer {
-        out.extend([d.source, d.confidence, d.bv.unwrap_or(0)]);
-        for f in &d.fits {
-            out.push(f.step);
-            out.extend(f.peak.to_be_bytes());
-            out.extend(f.runner_up.to_be_bytes());
-            out.push(f.exact as u8);
-        }
-        out.push(d.warnings.len() as u8);
+fn crc(bytes: &[u8]) -> String {
+    format!(" {:08x}", oracle::crc32(bytes))
+}
+
+/// An answer's number, and the reason of answer 8.
+fn number<T>(answer: &Result<T, Refusal>) -> String {
+    match answer {
+        Ok(_) => "answer 0".into(),
+        Err(r) if r.number == 8 => format!("answer 8 reason {}", r.values[1]),
+        Err(r) => format!("answer {}", r.number),
     }
-    hex(&out)
+}
+
+fn refused(number: u8, value: usize) -> Refusal {
+    Refusal { number, values: vec![value as u64], candidates: Vec::new() }
+}
+
+/// CRC, trailer, integrity, superblock; on lengths that are no page's too.
+fn fields(case: &Case, frozen: &mut Frozen) {
+    let page = &case.page[..];
+    if page.len() > 4096 + 1 {
+        return;
+    }
+    let shows = vec![format!("{} bytes", page.len())];
+    frozen.take(about(Asked::Crc, case, page), Expected { line: crc(page), shows });
+
+    let answer = oracle::trailer(page);
+    let mut shows = vec![number(&answer)];
+    shows.extend(answer.iter().map(|t| format!("type {} variant {}", t.type_case, t.case_variant)));
+    frozen.take(about(Asked::Trailer, case, page), Expected { line: hex(&layouts::trailer(&answer)), shows });
+
+    let answer = oracle::integrity(case.number, page);
+    let shows = vec![format!("{} on page 0: {}", number(&answer), case.number == 0)];
+    frozen.take(about(Asked::Integrity, case, page), Expected { line: hex(&layouts::integrity(&answer)), shows });
+
+    for (asked, answer) in [(Asked::Superblock, oracle::superblock(page)), (Asked::SuperblockChecked, oracle::superblock_checked(page))] {
+        let mut shows = vec![number(&answer)];
+        shows.extend(answer.iter().map(|s| format!("marker {}", s.marker)));
+        frozen.take(about(asked, case, page), Expected { line: hex(&layouts::superblock(&answer)), shows });
+    }
+}
+
+/// Scan, decodings, replacement.
+fn whole_page(case: &Case, frozen: &mut Frozen) {
+    let page = &case.page[..];
+    let reading = Reading::new(case.number, page).expect("its length is right");
+    let (fits, shifted) = (reading.fits(), reading.shifted());
+
+    let line = hex(&layouts::fits(None, &fits)) + &crc(&shifted);
+    let exact = fits.iter().filter(|f| f.exact).count();
+    frozen.take(Question { room: 4080, ..about(Asked::Scan, case, page) }, Expected { line, shows: vec![format!("{exact} exact")] });
+    let none = [Fit { step: 0, peak: 0, runner_up: 0, exact: false }; 8];
+    for room in [0, 4079] {
+        let refusal = refused(2, room);
+        let line = hex(&layouts::fits(Some(&refusal), &none)) + &crc(&vec![0; room]);
+        frozen.take(Question { room, ..about(Asked::Scan, case, page) }, Expected { line, shows: vec![format!("room for {room}")] });
+    }
+
+    let answer = reading.decode(&case.anchors, case.bits);
+    let shows = decoding_shows(case, &answer);
+    frozen.take(about(Asked::Decoding, case, page), Expected { line: decoding_line(&answer, 4096), shows });
+    let answer = Err(refused(2, 4095));
+    let shows = decoding_shows(case, &answer);
+    frozen.take(Question { room: 4095, ..about(Asked::Decoding, case, page) }, Expected { line: decoding_line(&answer, 4095), shows });
+
+    let answer = reading.decode_supplied(case.bv, case.bits);
+    let shows = decoding_shows(case, &answer);
+    frozen.take(about(Asked::Supplied, case, page), Expected { line: decoding_line(&answer, 4096), shows });
+
+    for (sector, bytes) in &case.replacements {
+        if bytes.len() <= 600 && *sector < 65536 {
+            replacement(case, *sector, bytes, &reading, frozen);
+        }
+    }
+}
+
+/// The answer's layout, and the CRC of the plaintext's buffer: zeros unless the page is accepted.
+fn decoding_line(answer: &Result<Decoded, Refusal>, room: usize) -> String {
+    let out = answer.as_ref().map_or_else(|_| vec![0; room], |d| d.plain.clone());
+    hex(&layouts::decoding(answer)) + &crc(&out)
+}
+
+fn decoding_shows(case: &Case, answer: &Result<Decoded, Refusal>) -> Vec<String> {
+    let mut out = vec![number(answer)];
+    if let Ok(d) = answer {
+        out.push(format!("residue {}", case.number % 16));
+        out.push(format!("source {} confidence {}", d.source, d.confidence));
+        out.push(format!("evidence {:?}", d.evidence.iter().map(|e| e.0).collect::<Vec<_>>()));
+        out.extend(warned(&d.warnings));
+    }
+    out
+}
+
+fn warned(warnings: &[Warning]) -> impl Iterator<Item = String> {
+    warnings.iter().map(|w| format!("warning {}", w.number))
+}
+
+/// The page scanned, a sector replaced, the page decoded from the summary: what a fresh reading of the final page gives.
+fn replacement(case: &Case, sector: usize, bytes: &[u8], before: &Reading<'_>, frozen: &mut Frozen) {
+    let fitting = sector < 8 && bytes.len() == if sector == 7 { 496 } else { 512 };
+    let mut page = case.page.clone();
+    if fitting {
+        page[sector * 512..][..bytes.len()].copy_from_slice(bytes);
+    }
+    let after = Reading::new(case.number, &page).expect("its length is right");
+    let (shown, refusal) = if fitting { (&after, None) } else { (before, Some(refused(14, sector))) };
+    let decoded = after.decode(&case.anchors, case.bits);
+    let line = hex(&layouts::fits(refusal.as_ref(), &shown.fits())) + &crc(&page) + &crc(&shown.shifted()) + " " + &decoding_line(&decoded, 4096);
+    let shows = vec![format!("fitting {fitting} sector {sector}"), number(&decoded)];
+    let asked = about(Asked::Replacement, case, &case.page);
+    frozen.take(Question { place: sector, bytes, room: 4080, ..asked }, Expected { line, shows });
+}
+
+/// The parse and the rows of a plain page, the last row and the one behind it.
+fn rows(case: &Case, plain: &[u8], frozen: &mut Frozen) {
+    if plain.len() > 4096 + 1 {
+        return;
+    }
+    let parsed = oracle::parse(case.number, plain, case.bits);
+    let expected = |line: Vec<u8>| Expected { line: hex(&line), shows: parse_shows(&parsed) };
+    frozen.take(about(Asked::Parse, case, plain), expected(layouts::parse(&parsed)));
+    let count = parsed.as_ref().map_or(0, |p| p.rows.len());
+    let shows = vec![number(&parsed)];
+    frozen.take(about(Asked::RowCount, case, plain), Expected { line: hex(&layouts::row_count(&parsed)), shows });
+    for row in [0, count / 2, count.saturating_sub(1), count] {
+        let shows = vec![format!("{} last {} beyond {}", number(&parsed), row + 1 == count, row >= count)];
+        let asked = about(Asked::Row, case, plain);
+        frozen.take(Question { place: row, ..asked }, Expected { line: hex(&layouts::row(&parsed, row)), shows });
+    }
+}
+
+fn parse_shows(parsed: &Result<Parsed, Refusal>) -> Vec<String> {
+    let mut out = vec![number(parsed)];
+    if let Ok(p) = parsed {
+        out.push(p.directory.as_ref().map_or("no directory".into(), |d| format!("declared {}", d.declared.is_some())));
+        out.extend(warned(&p.warnings));
+    }
+    out
 }

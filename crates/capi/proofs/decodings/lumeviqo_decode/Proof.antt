@@ -11,7 +11,7 @@ use Rattle.capi.proofs.Told.{pick-kept, pick-taken, told-kept, told-tak
 use Rattle.decode.specs.declared.Decoding.{Decoding}
 use Rattle.answers.specs.declared.settings.Options.{Options}
 use Rattle.answers.specs.Settings.{optionsOf}
-use Rattle.capi.specs.Layouts.{decodingBytes}
+use Rattle.layout.specs.Layouts.{decodingBytes}
 use Rattle.summary.specs.Page.{fitsOf, bytesOf}
 use Rattle.decode.specs.Decode.{decodingOf, writtenOf}
 use borrow.Author.Needs.{needs}

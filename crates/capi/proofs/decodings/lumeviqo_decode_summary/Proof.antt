@@ -13,7 +13,7 @@ use Rattle.sector.specs.declared.fits.Fit.{Fit}
 use Rattle.decode.specs.declared.Decoding.{Decoding}
 use Rattle.answers.specs.declared.settings.Options.{Options}
 use Rattle.answers.specs.Settings.{optionsOf}
-use Rattle.capi.specs.Layouts.{decodingBytes}
+use Rattle.layout.specs.Layouts.{decodingBytes}
 use Rattle.decode.specs.Decode.{decodingOf, writtenOf}
 use borrow.Author.Needs.{needs}
 use Rattle.capi.proofs.decodings.lumeviqo_decode_summary.Statement.{statement}

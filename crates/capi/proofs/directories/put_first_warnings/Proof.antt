@@ -7,7 +7,7 @@ use native.Mathlib.Omega.{arith}
 use denote.Ref.{now}
 use lib.ListN.{length}
 use Rattle.lists.specs.Pieces.{over, joined}
-use Rattle.capi.specs.Parts.{warningEntry, warningsBytes}
+use Rattle.layout.specs.Parts.{warningEntry, warningsBytes}
 use Rattle.capi.proofs.Wrote.{filled-none, filled-more, filled-long}
 use Rattle.capi.proofs.Lengths.{warning-long, warning-length}
 use Rattle.capi.proofs.directories.put_first_warnings.Statement.{statement}

@@ -7,7 +7,7 @@ use native.Mathlib.Omega.{arith}
 use denote.Ref.{now}
 use lib.ListN.{length}
 use Rattle.lists.specs.Pieces.{over, joined}
-use Rattle.capi.specs.Layouts.{slotEntry, slotsBytes}
+use Rattle.layout.specs.Layouts.{slotEntry, slotsBytes}
 use Rattle.capi.proofs.Wrote.{filled-none, filled-more, filled-long}
 use Rattle.capi.proofs.Lengths.{slot-long, two-long}
 use Rattle.capi.proofs.directories.put_slots.Statement.{statement}

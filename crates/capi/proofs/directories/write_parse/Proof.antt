@@ -7,10 +7,10 @@ use denote.Ref.{now}
 use lib.ListN.{length, length-append}
 use Rattle.lists.specs.Pieces.{over}
 use Rattle.capi.proofs.Wrote.{front-then}
-use Rattle.capi.specs.Numbers.{bytes2}
+use Rattle.layout.specs.Numbers.{bytes2}
 use Rattle.capi.proofs.Lengths.{answer-long, directory-long, slots-long, two-long, warnings-long}
-use Rattle.capi.specs.Parts.{answerBytes, warningsBytes}
-use Rattle.capi.specs.Layouts.{parseBytes, directoryBytes, slotsBytes}
+use Rattle.layout.specs.Parts.{answerBytes, warningsBytes}
+use Rattle.layout.specs.Layouts.{parseBytes, directoryBytes, slotsBytes}
 use borrow.Author.Needs.{needs}
 use Rattle.capi.proofs.directories.write_parse.Statement.{statement}
 use Rattle.capi.proofs.directories.write_parse.Tie as tie

@@ -7,10 +7,10 @@ use denote.Ref.{now}
 use lib.ListN.{length, length-append}
 use Rattle.lists.specs.Pieces.{over}
 use Rattle.capi.proofs.Wrote.{front-then}
-use Rattle.capi.specs.Numbers.{bytes2}
+use Rattle.layout.specs.Numbers.{bytes2}
 use Rattle.capi.proofs.Lengths.{answer-long, two-long}
-use Rattle.capi.specs.Parts.{answerBytes}
-use Rattle.capi.specs.Layouts.{rowBytes, spanStart, spanEnd}
+use Rattle.layout.specs.Parts.{answerBytes}
+use Rattle.layout.specs.Layouts.{rowBytes, spanStart, spanEnd}
 use borrow.Author.Needs.{needs}
 use Rattle.capi.proofs.directories.write_row.Statement.{statement}
 use Rattle.capi.proofs.directories.write_row.Tie as tie

@@ -6,10 +6,10 @@ use denote.Ref.{now}
 use lib.ListN.{length}
 use Rattle.lists.specs.Pieces.{over}
 use Rattle.capi.proofs.Wrote.{front-then}
-use Rattle.capi.specs.Numbers.{bytes2}
+use Rattle.layout.specs.Numbers.{bytes2}
 use Rattle.capi.proofs.Lengths.{answer-long, two-long}
-use Rattle.capi.specs.Parts.{answerBytes}
-use Rattle.capi.specs.Layouts.{rowCountBytes}
+use Rattle.layout.specs.Parts.{answerBytes}
+use Rattle.layout.specs.Layouts.{rowCountBytes}
 use borrow.Author.Needs.{needs}
 use Rattle.capi.proofs.directories.write_row_count.Statement.{statement}
 use Rattle.capi.proofs.directories.write_row_count.Tie as tie

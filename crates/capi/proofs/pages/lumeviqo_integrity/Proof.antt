@@ -9,7 +9,7 @@ use Rattle.lists.specs.Pieces.{over}
 use Rattle.capi.specs.Buffers.{hasRoom}
 use Rattle.capi.proofs.Told.{pick-kept, pick-taken, told-kept, told-taken}
 use Rattle.answers.specs.declared.kinds.Answer.{Answer}
-use Rattle.capi.specs.Parts.{answerBytes}
+use Rattle.layout.specs.Parts.{answerBytes}
 use borrow.Author.Needs.{needs}
 use Rattle.capi.proofs.pages.lumeviqo_integrity.Statement.{statement}
 use Rattle.capi.proofs.pages.lumeviqo_integrity.Tie as tie

@@ -9,7 +9,7 @@ use Rattle.lists.specs.Pieces.{over}
 use Rattle.capi.specs.Buffers.{hasRoom}
 use Rattle.capi.proofs.Told.{pick-kept, pick-taken, told-kept, told-taken}
 use Rattle.page.specs.declared.superblocks.SuperblockAnswer.{SuperblockAnswer}
-use Rattle.capi.specs.Layouts.{superblockBytes}
+use Rattle.layout.specs.Layouts.{superblockBytes}
 use borrow.Author.Needs.{needs}
 use Rattle.capi.proofs.pages.lumeviqo_superblock.Statement.{statement}
 use Rattle.capi.proofs.pages.lumeviqo_superblock.Tie as tie

@@ -9,7 +9,7 @@ use Rattle.lists.specs.Pieces.{over}
 use Rattle.capi.specs.Buffers.{hasRoom}
 use Rattle.capi.proofs.Told.{pick-kept, pick-taken, told-kept, told-taken}
 use Rattle.page.specs.declared.trailers.TrailerAnswer.{TrailerAnswer}
-use Rattle.capi.specs.Layouts.{trailerBytes}
+use Rattle.layout.specs.Layouts.{trailerBytes}
 use borrow.Author.Needs.{needs}
 use Rattle.capi.proofs.pages.lumeviqo_trailer.Statement.{statement}
 use Rattle.capi.proofs.pages.lumeviqo_trailer.Tie as tie

@@ -7,7 +7,7 @@ use native.Mathlib.Omega.{arith}
 use denote.Ref.{now}
 use lib.ListN.{length}
 use Rattle.lists.specs.Pieces.{over, joined}
-use Rattle.capi.specs.Parts.{fitEntry, fitsBytes}
+use Rattle.layout.specs.Parts.{fitEntry, fitsBytes}
 use Rattle.capi.proofs.Wrote.{filled-none, filled-more, filled-long}
 use Rattle.capi.proofs.Lengths.{fit-long, fit-length}
 use Rattle.capi.proofs.puts.put_fits.Statement.{statement}

@@ -12,7 +12,7 @@ use Rattle.capi.proofs.Told.{pick-kept, pick-taken, told-kept, told-tak
 use Rattle.answers.specs.declared.settings.Leniency.{Leniency}
 use Rattle.slotted.specs.Parses.{parsedOf}
 use Rattle.slotted.specs.declared.directories.Parsed.{Parsed}
-use Rattle.capi.specs.Layouts.{parseBytes}
+use Rattle.layout.specs.Layouts.{parseBytes}
 use borrow.Author.Needs.{needs}
 use Rattle.capi.proofs.rows.lumeviqo_parse.Statement.{statement}
 use Rattle.capi.proofs.rows.lumeviqo_parse.Tie as tie

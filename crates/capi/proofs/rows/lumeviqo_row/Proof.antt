@@ -13,7 +13,7 @@ use Rattle.answers.specs.declared.settings.Leniency.{Leniency}
 use Rattle.slotted.specs.RowAnswers.{rowOf, rowAnswerOf}
 use Rattle.answers.specs.declared.kinds.Answer.{Answer}
 use Rattle.slotted.specs.declared.spans.Span.{Span}
-use Rattle.capi.specs.Layouts.{rowBytes}
+use Rattle.layout.specs.Layouts.{rowBytes}
 use borrow.Author.Needs.{needs}
 use Rattle.capi.proofs.rows.lumeviqo_row.Statement.{statement}
 use Rattle.capi.proofs.rows.lumeviqo_row.Tie as tie

@@ -14,7 +14,7 @@ use Rattle.answers.specs.declared.settings.Leniency.{Leniency}
 use Rattle.slotted.specs.Parses.{parsedOf}
 use Rattle.slotted.specs.RowAnswers.{rowsOf}
 use Rattle.slotted.specs.declared.directories.Parsed.{Parsed}
-use Rattle.capi.specs.Layouts.{rowCountBytes}
+use Rattle.layout.specs.Layouts.{rowCountBytes}
 use borrow.Author.Needs.{needs}
 use Rattle.capi.proofs.rows.lumeviqo_row_count.Statement.{statement}
 use Rattle.capi.proofs.rows.lumeviqo_row_count.Tie as tie

@@ -9,7 +9,7 @@ use Rattle.lists.specs.Pieces.{over}
 use Rattle.capi.specs.Buffers.{hasFits, fitsIn}
 use Rattle.capi.proofs.Told.{pick-kept, pick-taken, told-kept, told-taken, and-left, and-right, and-both}
 use Rattle.summary.specs.declared.replacing.Changed.{Changed}
-use Rattle.capi.specs.Layouts.{changedBytes}
+use Rattle.layout.specs.Layouts.{changedBytes}
 use Rattle.summary.specs.Replace.{replaced}
 use borrow.Author.Needs.{needs}
 use Rattle.capi.proofs.summaries.lumeviqo_replace.Statement.{statement}

@@ -9,7 +9,7 @@ use Rattle.lists.specs.Pieces.{over}
 use Rattle.capi.specs.Buffers.{hasRoom}
 use Rattle.capi.proofs.Told.{pick-kept, pick-taken, told-kept, told-taken}
 use Rattle.summary.specs.declared.pages.Scan.{Scan}
-use Rattle.capi.specs.Layouts.{scanBytes}
+use Rattle.layout.specs.Layouts.{scanBytes}
 use borrow.Author.Needs.{needs}
 use Rattle.capi.proofs.summaries.lumeviqo_scan.Statement.{statement}
 use Rattle.capi.proofs.summaries.lumeviqo_scan.Tie as tie

@@ -5,8 +5,8 @@ use denote.Ref.{now}
 use lib.ListN.{length}
 use Rattle.capi.proofs.Wrote.{front-then}
 use Rattle.capi.proofs.Lengths.{answer-long, fits-long}
-use Rattle.capi.specs.Parts.{answerBytes, fitsBytes}
-use Rattle.capi.specs.Layouts.{changedBytes}
+use Rattle.layout.specs.Parts.{answerBytes, fitsBytes}
+use Rattle.layout.specs.Layouts.{changedBytes}
 use borrow.Author.Needs.{needs}
 use Rattle.capi.proofs.writes.write_changed.Statement.{statement}
 use Rattle.capi.proofs.writes.write_changed.Tie as tie

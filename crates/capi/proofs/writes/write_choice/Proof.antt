@@ -8,8 +8,8 @@ use lib.ListN.{length, length-append}
 use Rattle.lists.specs.Pieces.{over}
 use Rattle.capi.proofs.Wrote.{front-then}
 use Rattle.capi.proofs.Lengths.{answer-long, bvs-long, head-long, grounds-long}
-use Rattle.capi.specs.Parts.{answerBytes, groundsBytes}
-use Rattle.capi.specs.Layouts.{choiceBytes, bvsBytes, headBytes}
+use Rattle.layout.specs.Parts.{answerBytes, groundsBytes}
+use Rattle.layout.specs.Layouts.{choiceBytes, bvsBytes, headBytes}
 use borrow.Author.Needs.{needs}
 use Rattle.capi.proofs.writes.write_choice.Statement.{statement}
 use Rattle.capi.proofs.writes.write_choice.Tie as tie

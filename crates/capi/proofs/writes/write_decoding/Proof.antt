@@ -8,8 +8,8 @@ use lib.ListN.{length, length-append}
 use Rattle.lists.specs.Pieces.{over}
 use Rattle.capi.proofs.Wrote.{front-then}
 use Rattle.capi.proofs.Lengths.{choice-long, fits-long, warnings-long}
-use Rattle.capi.specs.Parts.{fitsBytes, warningsBytes}
-use Rattle.capi.specs.Layouts.{choiceBytes, decodingBytes}
+use Rattle.layout.specs.Parts.{fitsBytes, warningsBytes}
+use Rattle.layout.specs.Layouts.{choiceBytes, decodingBytes}
 use borrow.Author.Needs.{needs}
 use Rattle.capi.proofs.writes.write_decoding.Statement.{statement}
 use Rattle.capi.proofs.writes.write_decoding.Tie as tie

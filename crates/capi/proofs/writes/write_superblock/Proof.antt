@@ -7,8 +7,8 @@ use lib.ListN.{length}
 use Rattle.lists.specs.Pieces.{over}
 use Rattle.capi.proofs.Wrote.{front-then}
 use Rattle.capi.proofs.Lengths.{answer-long, field-long}
-use Rattle.capi.specs.Parts.{answerBytes}
-use Rattle.capi.specs.Layouts.{superblockBytes, fieldBytes}
+use Rattle.layout.specs.Parts.{answerBytes}
+use Rattle.layout.specs.Layouts.{superblockBytes, fieldBytes}
 use borrow.Author.Needs.{needs}
 use Rattle.capi.proofs.writes.write_superblock.Statement.{statement}
 use Rattle.capi.proofs.writes.write_superblock.Tie as tie

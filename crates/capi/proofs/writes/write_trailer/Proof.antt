@@ -7,8 +7,8 @@ use lib.ListN.{length}
 use Rattle.lists.specs.Pieces.{over}
 use Rattle.capi.proofs.Wrote.{front-then}
 use Rattle.capi.proofs.Lengths.{answer-long, record-long}
-use Rattle.capi.specs.Parts.{answerBytes}
-use Rattle.capi.specs.Layouts.{trailerBytes, recordBytes}
+use Rattle.layout.specs.Parts.{answerBytes}
+use Rattle.layout.specs.Layouts.{trailerBytes, recordBytes}
 use borrow.Author.Needs.{needs}
 use Rattle.capi.proofs.writes.write_trailer.Statement.{statement}
 use Rattle.capi.proofs.writes.write_trailer.Tie as tie

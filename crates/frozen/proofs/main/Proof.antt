@@ -1,0 +1,47 @@
+-- `main` is safe and ends: its turns fall.
+use borrow.Author.Needs.{needs}
+use Prim.Native.Nat.{_≤_}
+use native.Mathlib.Omega.{arith}
+use Rattle.frozen.proofs.main.Statement.{statement}
+use Rattle.frozen.proofs.main.Tie as tie
+
+abbrev Inv-loop : tie.InvT-loop
+Inv-loop turns₀ turns = turns ≤ turns₀
+
+abbrev μ-loop : tie.MeasureT-loop
+μ-loop turns₀ turns = turns
+
+loop-holds : tie.Need-loop-holds Inv-loop μ-loop
+loop-holds c = omega arith
+
+next-requires : tie.Need-next-requires Inv-loop μ-loop
+next-requires c κs = search needs
+
+returns : tie.Need-returns Inv-loop μ-loop
+returns c = search needs
+
+sub-turns : tie.Need-sub-turns Inv-loop μ-loop
+sub-turns c = omega arith
+
+loop-less : tie.Need-loop-less Inv-loop μ-loop
+loop-less c = omega arith
+
+loop-again : tie.Need-loop-again Inv-loop μ-loop
+loop-again c = omega arith
+
+returns-2 : tie.Need-returns-2 Inv-loop μ-loop
+returns-2 c = search needs
+
+pub main-spec : {M : Type 1} → statement M
+main-spec =
+    tie.close
+    (tie.spec
+    Inv-loop
+    μ-loop
+    loop-holds
+    next-requires
+    returns
+    sub-turns
+    loop-less
+    loop-again
+    returns-2)

@@ -1,0 +1,2 @@
+-- Laws of the pieces.
+pub mod Made
