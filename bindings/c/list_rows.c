@@ -14,7 +14,7 @@ static uint64_t number_at(const uint8_t *bytes, size_t at, size_t width) {
 }
 
 static void print_refusal(uint64_t page, const uint8_t *answer) {
-    printf("%" PRIu64 ": answer %u", page, answer[0]);
+    printf("%" PRIu64 ": refused with answer %u:", page, answer[0]);
     for (size_t k = 0; k < answer[1]; k++)
         printf(" %" PRIu64, number_at(answer, 8 + 8 * k, 8));
     putchar('\n');

@@ -10,7 +10,10 @@ fn main() -> ExitCode {
         eprintln!("usage: list_rows FILE [LENIENCY]");
         return ExitCode::FAILURE;
     };
-    let leniency = Leniency(args.next().and_then(|a| a.parse().ok()).unwrap_or(0));
+    let Ok(leniency) = args.next().map_or(Ok(0), |a| a.parse()).map(Leniency) else {
+        eprintln!("LENIENCY is a sum of 1 (keystream), 2 (directory) and 4 (integrity)");
+        return ExitCode::FAILURE;
+    };
     let file = match std::fs::read(&path) {
         Ok(file) => file,
         Err(e) => {
@@ -20,7 +23,7 @@ fn main() -> ExitCode {
     };
     for (number, page) in (0..).zip(file.chunks(PAGE)) {
         if let Err(refusal) = list(number, page, leniency) {
-            println!("{number}: {refusal}");
+            println!("{number}: refused, {refusal}");
         }
     }
     ExitCode::SUCCESS

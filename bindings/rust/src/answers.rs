@@ -112,38 +112,48 @@ pub enum Refusal {
     NoSuchRow(usize),
 }
 
+/// What was wrong, and what may help.
 impl fmt::Display for Refusal {
     fn fmt(&self, f: &mut fmt::Formatter<'_>) -> fmt::Result {
         match self {
-            Refusal::WrongPageLength(n) => write!(f, "a page has 4096 bytes, not {n}"),
-            Refusal::WrongBufferLength(n) => write!(f, "a lent buffer has the wrong length, {n}"),
-            Refusal::BadCrc { page, stored, computed } => write!(f, "page {page}: its CRC is {computed:08x}, and {stored:08x} is stored"),
-            Refusal::BadTrailer { page } => write!(f, "page {page}: reserved trailer bytes are not zero"),
-            Refusal::AmbiguousCalibration { page, candidates } => write!(f, "page {page}: bv may be any of {candidates:02x?}"),
-            Refusal::KeystreamUnverified { page, bv } => write!(f, "page {page}: nothing confirms bv {bv:02x}"),
-            Refusal::LowConfidenceKeystream { page, sector, peak, runner_up } => {
-                write!(f, "page {page}, sector {sector}: its step is in doubt, {peak} bytes agree against {runner_up}")
+            Refusal::WrongPageLength(n) => write!(f, "a page has 4096 bytes, and {n} were lent"),
+            Refusal::WrongBufferLength(n) => write!(f, "a lent buffer has {n} bytes: plaintext takes 4096, shifted bytes take 4080"),
+            Refusal::BadCrc { page, stored, computed } => {
+                write!(f, "page {page}: its CRC is {computed:08x}, and {stored:08x} is stored: mend the damaged sector, or allow INTEGRITY")
             }
+            Refusal::BadTrailer { page } => write!(f, "page {page}: reserved trailer bytes are not zero: allow INTEGRITY to read it"),
+            Refusal::AmbiguousCalibration { page, candidates } => {
+                write!(f, "page {page}: bv may be any of {candidates:02x?}: lend its block's anchors, or allow KEYSTREAM")
+            }
+            Refusal::KeystreamUnverified { page, bv } => {
+                write!(f, "page {page}: nothing confirms bv {bv:02x}: lend its block's anchors, or allow KEYSTREAM")
+            }
+            Refusal::LowConfidenceKeystream { page, sector, peak, runner_up } => write!(
+                f,
+                "page {page}, sector {sector}: its step is in doubt, {peak} bytes agree against {runner_up}: allow KEYSTREAM to read it"
+            ),
             Refusal::NoSlotDirectory { page, reason } => {
                 let why = match reason {
                     Reason::CountBelowFour => "a row count below 4 confirms none",
                     Reason::FewerThanEightLive => "what looks like one has fewer than 8 live slots",
                     Reason::Unconfirmed => "no prelude confirms what looks like one",
                 };
-                write!(f, "page {page}: no slot directory, {why}")
+                write!(f, "page {page}: no slot directory, {why}: allow DIRECTORY to read it")
             }
-            Refusal::UnknownPrelude { page } => write!(f, "page {page}: no prelude has its row count"),
+            Refusal::UnknownPrelude { page } => write!(f, "page {page}: no prelude has its row count: allow DIRECTORY to read it"),
             Refusal::SlotDirectoryTruncated { page, found, expected, stop } => {
-                write!(f, "page {page}: {found} slots of {expected}, up to offset {stop}")
+                write!(f, "page {page}: {found} slots of {expected}, up to offset {stop}: allow DIRECTORY to read those")
             }
-            Refusal::AmbiguousSlotDirectory { page } => write!(f, "page {page}: several slot directories fit"),
+            Refusal::AmbiguousSlotDirectory { page } => write!(f, "page {page}: several slot directories fit: allow DIRECTORY to take one"),
             Refusal::SlotOffsetInDirectory { page, offset, end } => {
-                write!(f, "page {page}: slot offset {offset} lies inside the directory, which ends at {end}")
+                write!(f, "page {page}: slot offset {offset} lies inside the directory, which ends at {end}: allow DIRECTORY to drop it")
             }
-            Refusal::BadMagic(magic) => write!(f, "magic {magic:08x} is not that of SQL Anywhere 17"),
-            Refusal::BadReplacement { sector } => write!(f, "sector {sector}: no such sector, or not its length"),
+            Refusal::BadMagic(magic) => write!(f, "magic {magic:08x}, not da7aba5e: this is no page 0 of a SQL Anywhere 17 file"),
+            Refusal::BadReplacement { sector } => {
+                write!(f, "sector {sector} does not take these bytes: sectors 0 to 6 take 512, sector 7 takes 496")
+            }
             Refusal::TooManyCandidates { page } => write!(f, "page {page}: more than eight values of bv to choose from"),
-            Refusal::NoSuchRow(row) => write!(f, "there is no row {row}"),
+            Refusal::NoSuchRow(row) => write!(f, "there is no row {row}: rows are counted from 0"),
         }
     }
 }

@@ -99,14 +99,7 @@ pub fn scan(number: u64, page: &[u8], shifted: &mut [u8]) -> Result<Fits, Refusa
 }
 
 /// Puts new bytes into a sector of a stored page. The fits and the shifted bytes are then those of the new page.
-pub fn replace(
-    number: u64,
-    page: &mut [u8],
-    shifted: &mut [u8],
-    fits: &Fits,
-    sector: usize,
-    bytes: &[u8],
-) -> Result<Fits, Refusal> {
+pub fn replace(number: u64, page: &mut [u8], shifted: &mut [u8], fits: &Fits, sector: usize, bytes: &[u8]) -> Result<Fits, Refusal> {
     let fits = layout::fits_bytes(fits);
     let answer = asked::<{ sys::SCAN }>(|a, n| unsafe {
         sys::lumeviqo_replace(
@@ -233,8 +226,7 @@ pub fn decode_supplied_summary(
 
 /// The slot directory of a plain page.
 pub fn parse(number: u64, plain: &[u8], leniency: Leniency) -> Result<Parsed, Refusal> {
-    let answer =
-        asked::<{ sys::PARSE }>(|a, n| unsafe { sys::lumeviqo_parse(number, plain.as_ptr(), plain.len(), leniency.0, a, n) });
+    let answer = asked::<{ sys::PARSE }>(|a, n| unsafe { sys::lumeviqo_parse(number, plain.as_ptr(), plain.len(), leniency.0, a, n) });
     layout::parsed(&answer)
 }
 
@@ -247,8 +239,7 @@ pub fn row_count(number: u64, plain: &[u8], leniency: Leniency) -> Result<usize,
 
 /// A row of a plain page. Rows ascend by offset, and the first is row 0.
 pub fn row(number: u64, plain: &[u8], leniency: Leniency, row: usize) -> Result<Row<'_>, Refusal> {
-    let answer =
-        asked::<{ sys::ROW }>(|a, n| unsafe { sys::lumeviqo_row(number, plain.as_ptr(), plain.len(), leniency.0, row, a, n) });
+    let answer = asked::<{ sys::ROW }>(|a, n| unsafe { sys::lumeviqo_row(number, plain.as_ptr(), plain.len(), leniency.0, row, a, n) });
     let (offset, end) = layout::row(&answer)?;
     Ok(Row { offset, bytes: &plain[offset as usize..end as usize] })
 }

@@ -107,14 +107,8 @@ unsafe extern "C" {
         answer_length: usize,
     ) -> usize;
 
-    pub fn lumeviqo_parse(
-        number: u64,
-        plain: *const u8,
-        plain_length: usize,
-        leniency: u8,
-        answer: *mut u8,
-        answer_length: usize,
-    ) -> usize;
+    pub fn lumeviqo_parse(number: u64, plain: *const u8, plain_length: usize, leniency: u8, answer: *mut u8, answer_length: usize)
+    -> usize;
 
     pub fn lumeviqo_row_count(
         number: u64,

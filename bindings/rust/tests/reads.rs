@@ -109,7 +109,9 @@ fn the_checked_superblock_wants_its_magic() {
 #[test]
 fn page_types_keep_their_byte() {
     let mut page = [0; PAGE];
-    for (byte, page_type, variant) in [(0x45, PageType::Extent, false), (0x65, PageType::Extent, true), (0x60, PageType::Other(0x60), false)] {
+    for (byte, page_type, variant) in
+        [(0x45, PageType::Extent, false), (0x65, PageType::Extent, true), (0x60, PageType::Other(0x60), false)]
+    {
         page[0xFF2] = byte;
         let t = trailer(&page).unwrap();
         assert_eq!((t.page_type, t.case_variant), (page_type, variant));
