@@ -17,6 +17,14 @@ hasRoom n answer = leb n (length answer)
 abbrev pub hasFits : ℕ → List ℕ → List ℕ → Bool
 hasFits n answer fits = leb n (length answer) && eqb (length fits) 48
 
+-- what a call returns: how many bytes of `answer` it wrote
+abbrev pub returned : Bool → ℕ → ℕ
+returned taken n = pick taken n 0
+
+-- a lent buffer, where the call was taken; else as it was
+abbrev pub given : Bool → List ℕ → List ℕ → List ℕ
+given taken after before = pick taken after before
+
 -- the layout at the front of the buffer, where the call was taken; else the buffer as it was
 unfoldable pub told : Bool → List ℕ → List ℕ → List ℕ
 told taken bytes answer = pick taken (over answer 0 bytes) answer

@@ -1,2 +1,3 @@
--- What becomes of the buffers that a caller lends.
+-- What the functions find, and what becomes of the buffers that a caller lends.
 pub mod Buffers
+pub mod Calls

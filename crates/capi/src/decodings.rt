@@ -1,12 +1,9 @@
 // The decodings: by their own scan, from a summary, with a supplied bv.
 ghost use mathlib.Core.Path.{_≡_};
 ghost use lib.ListN.{length};
-ghost use Rattle.lists.specs.Cases.{pick};
-ghost use Rattle.answers.specs.Settings.{optionsOf};
-ghost use Rattle.summary.specs.Page.{fitsOf, bytesOf};
-ghost use Rattle.decode.specs.Decode.{decodingOf, suppliedDecodingOf, writtenOf};
 ghost use Rattle.layout.specs.Layouts.{decodingBytes};
-ghost use Rattle.capi.specs.Buffers.{hasRoom, hasFits, told, fitsIn};
+ghost use Rattle.capi.specs.Buffers.{hasRoom, hasFits, returned, given, told};
+ghost use Rattle.capi.specs.Calls.{decoded, decodedTo, decodedFrom, decodedFromTo, supplied, suppliedTo, suppliedFrom, suppliedFromTo};
 use crate::lent::fits_in;
 use crate::writes::write_decoding;
 use answers::Options;
@@ -21,7 +18,9 @@ pub extern "C" fn lumeviqo_decode(
     out: &mut [u8],
     answer: &mut [u8],
 ) -> usize
-    ensures { λ r. ⌜ (r ≡ pick (hasRoom 452 (now (answer .entry))) 452 0) × (now (answer .exit) ≡ told (hasRoom 452 (now (answer .entry))) (decodingBytes (decodingOf 0x300 number (now (page .entry)) (fitsOf number (now (page .entry))) (bytesOf number (now (page .entry))) (now (anchors .entry)) (optionsOf leniency «min_trailer_count») (length (now (out .entry))))) (now (answer .entry))) × (now (out .exit) ≡ pick (hasRoom 452 (now (answer .entry))) (writtenOf (decodingOf 0x300 number (now (page .entry)) (fitsOf number (now (page .entry))) (bytesOf number (now (page .entry))) (now (anchors .entry)) (optionsOf leniency «min_trailer_count») (length (now (out .entry)))) (now (page .entry)) (bytesOf number (now (page .entry))) (now (out .entry))) (now (out .entry))) ⌝ }
+    ensures { λ r. ⌜ (r ≡ returned (hasRoom 452 (now (answer .entry))) 452)
+        × (now (answer .exit) ≡ told (hasRoom 452 (now (answer .entry))) (decodingBytes (decoded number (now (page .entry)) (now (anchors .entry)) leniency «min_trailer_count» (length (now (out .entry))))) (now (answer .entry)))
+        × (now (out .exit) ≡ given (hasRoom 452 (now (answer .entry))) (decodedTo number (now (page .entry)) (now (anchors .entry)) leniency «min_trailer_count» (now (out .entry))) (now (out .entry))) ⌝ }
 {
     if answer.len() < 452 {
         return 0;
@@ -44,7 +43,9 @@ pub extern "C" fn lumeviqo_decode_summary(
     out: &mut [u8],
     answer: &mut [u8],
 ) -> usize
-    ensures { λ r. ⌜ (r ≡ pick (hasFits 452 (now (answer .entry)) (now (fits .entry))) 452 0) × (now (answer .exit) ≡ told (hasFits 452 (now (answer .entry)) (now (fits .entry))) (decodingBytes (decodingOf 0x300 number (now (page .entry)) (fitsIn (now (fits .entry))) (now (shifted .entry)) (now (anchors .entry)) (optionsOf leniency «min_trailer_count») (length (now (out .entry))))) (now (answer .entry))) × (now (out .exit) ≡ pick (hasFits 452 (now (answer .entry)) (now (fits .entry))) (writtenOf (decodingOf 0x300 number (now (page .entry)) (fitsIn (now (fits .entry))) (now (shifted .entry)) (now (anchors .entry)) (optionsOf leniency «min_trailer_count») (length (now (out .entry)))) (now (page .entry)) (now (shifted .entry)) (now (out .entry))) (now (out .entry))) ⌝ }
+    ensures { λ r. ⌜ (r ≡ returned (hasFits 452 (now (answer .entry)) (now (fits .entry))) 452)
+        × (now (answer .exit) ≡ told (hasFits 452 (now (answer .entry)) (now (fits .entry))) (decodingBytes (decodedFrom number (now (page .entry)) (now (fits .entry)) (now (shifted .entry)) (now (anchors .entry)) leniency «min_trailer_count» (length (now (out .entry))))) (now (answer .entry)))
+        × (now (out .exit) ≡ given (hasFits 452 (now (answer .entry)) (now (fits .entry))) (decodedFromTo number (now (page .entry)) (now (fits .entry)) (now (shifted .entry)) (now (anchors .entry)) leniency «min_trailer_count» (now (out .entry))) (now (out .entry))) ⌝ }
 {
     if answer.len() < 452 {
         return 0;
@@ -69,7 +70,9 @@ pub extern "C" fn lumeviqo_decode_supplied(
     out: &mut [u8],
     answer: &mut [u8],
 ) -> usize
-    ensures { λ r. ⌜ (r ≡ pick (hasRoom 452 (now (answer .entry))) 452 0) × (now (answer .exit) ≡ told (hasRoom 452 (now (answer .entry))) (decodingBytes (suppliedDecodingOf 0x300 number bv (now (page .entry)) (fitsOf number (now (page .entry))) (bytesOf number (now (page .entry))) (optionsOf leniency «min_trailer_count») (length (now (out .entry))))) (now (answer .entry))) × (now (out .exit) ≡ pick (hasRoom 452 (now (answer .entry))) (writtenOf (suppliedDecodingOf 0x300 number bv (now (page .entry)) (fitsOf number (now (page .entry))) (bytesOf number (now (page .entry))) (optionsOf leniency «min_trailer_count») (length (now (out .entry)))) (now (page .entry)) (bytesOf number (now (page .entry))) (now (out .entry))) (now (out .entry))) ⌝ }
+    ensures { λ r. ⌜ (r ≡ returned (hasRoom 452 (now (answer .entry))) 452)
+        × (now (answer .exit) ≡ told (hasRoom 452 (now (answer .entry))) (decodingBytes (supplied number (now (page .entry)) bv leniency «min_trailer_count» (length (now (out .entry))))) (now (answer .entry)))
+        × (now (out .exit) ≡ given (hasRoom 452 (now (answer .entry))) (suppliedTo number (now (page .entry)) bv leniency «min_trailer_count» (now (out .entry))) (now (out .entry))) ⌝ }
 {
     if answer.len() < 452 {
         return 0;
@@ -92,7 +95,9 @@ pub extern "C" fn lumeviqo_decode_supplied_summary(
     out: &mut [u8],
     answer: &mut [u8],
 ) -> usize
-    ensures { λ r. ⌜ (r ≡ pick (hasFits 452 (now (answer .entry)) (now (fits .entry))) 452 0) × (now (answer .exit) ≡ told (hasFits 452 (now (answer .entry)) (now (fits .entry))) (decodingBytes (suppliedDecodingOf 0x300 number bv (now (page .entry)) (fitsIn (now (fits .entry))) (now (shifted .entry)) (optionsOf leniency «min_trailer_count») (length (now (out .entry))))) (now (answer .entry))) × (now (out .exit) ≡ pick (hasFits 452 (now (answer .entry)) (now (fits .entry))) (writtenOf (suppliedDecodingOf 0x300 number bv (now (page .entry)) (fitsIn (now (fits .entry))) (now (shifted .entry)) (optionsOf leniency «min_trailer_count») (length (now (out .entry)))) (now (page .entry)) (now (shifted .entry)) (now (out .entry))) (now (out .entry))) ⌝ }
+    ensures { λ r. ⌜ (r ≡ returned (hasFits 452 (now (answer .entry)) (now (fits .entry))) 452)
+        × (now (answer .exit) ≡ told (hasFits 452 (now (answer .entry)) (now (fits .entry))) (decodingBytes (suppliedFrom number (now (page .entry)) (now (fits .entry)) (now (shifted .entry)) bv leniency «min_trailer_count» (length (now (out .entry))))) (now (answer .entry)))
+        × (now (out .exit) ≡ given (hasFits 452 (now (answer .entry)) (now (fits .entry))) (suppliedFromTo number (now (page .entry)) (now (fits .entry)) (now (shifted .entry)) bv leniency «min_trailer_count» (now (out .entry))) (now (out .entry))) ⌝ }
 {
     if answer.len() < 452 {
         return 0;

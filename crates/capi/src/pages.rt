@@ -1,13 +1,12 @@
 // CRC, trailer, integrity, superblock.
 ghost use mathlib.Core.Path.{_≡_};
-ghost use Rattle.lists.specs.Cases.{pick};
 ghost use Rattle.crc.specs.V42.{crc32Of};
 ghost use Rattle.page.specs.Trailer.{trailerAnswer};
 ghost use Rattle.page.specs.Integrity.{integrityOf};
 ghost use Rattle.page.specs.Superblock.{parsedOf, checkedOf};
 ghost use Rattle.layout.specs.Parts.{answerBytes};
 ghost use Rattle.layout.specs.Layouts.{trailerBytes, superblockBytes};
-ghost use Rattle.capi.specs.Buffers.{hasRoom, told};
+ghost use Rattle.capi.specs.Buffers.{hasRoom, returned, told};
 use crate::puts::put_answer;
 use crate::writes::write_superblock;
 use crate::writes::write_trailer;
@@ -21,7 +20,8 @@ pub extern "C" fn lumeviqo_crc32(bytes: &[u8]) -> u32
 
 #[no_mangle]
 pub extern "C" fn lumeviqo_trailer(page: &[u8], answer: &mut [u8]) -> usize
-    ensures { λ r. ⌜ (r ≡ pick (hasRoom 53 (now (answer .entry))) 53 0) × (now (answer .exit) ≡ told (hasRoom 53 (now (answer .entry))) (trailerBytes (trailerAnswer (now (page .entry)))) (now (answer .entry))) ⌝ }
+    ensures { λ r. ⌜ (r ≡ returned (hasRoom 53 (now (answer .entry))) 53)
+        × (now (answer .exit) ≡ told (hasRoom 53 (now (answer .entry))) (trailerBytes (trailerAnswer (now (page .entry)))) (now (answer .entry))) ⌝ }
 {
     if answer.len() < 53 {
         return 0;
@@ -33,7 +33,8 @@ pub extern "C" fn lumeviqo_trailer(page: &[u8], answer: &mut [u8]) -> usize
 
 #[no_mangle]
 pub extern "C" fn lumeviqo_integrity(number: u64, page: &[u8], answer: &mut [u8]) -> usize
-    ensures { λ r. ⌜ (r ≡ pick (hasRoom 40 (now (answer .entry))) 40 0) × (now (answer .exit) ≡ told (hasRoom 40 (now (answer .entry))) (answerBytes (integrityOf number (now (page .entry)))) (now (answer .entry))) ⌝ }
+    ensures { λ r. ⌜ (r ≡ returned (hasRoom 40 (now (answer .entry))) 40)
+        × (now (answer .exit) ≡ told (hasRoom 40 (now (answer .entry))) (answerBytes (integrityOf number (now (page .entry)))) (now (answer .entry))) ⌝ }
 {
     if answer.len() < 40 {
         return 0;
@@ -45,7 +46,8 @@ pub extern "C" fn lumeviqo_integrity(number: u64, page: &[u8], answer: &mut [u8]
 
 #[no_mangle]
 pub extern "C" fn lumeviqo_superblock(page: &[u8], answer: &mut [u8]) -> usize
-    ensures { λ r. ⌜ (r ≡ pick (hasRoom 63 (now (answer .entry))) 63 0) × (now (answer .exit) ≡ told (hasRoom 63 (now (answer .entry))) (superblockBytes (parsedOf (now (page .entry)))) (now (answer .entry))) ⌝ }
+    ensures { λ r. ⌜ (r ≡ returned (hasRoom 63 (now (answer .entry))) 63)
+        × (now (answer .exit) ≡ told (hasRoom 63 (now (answer .entry))) (superblockBytes (parsedOf (now (page .entry)))) (now (answer .entry))) ⌝ }
 {
     if answer.len() < 63 {
         return 0;
@@ -57,7 +59,8 @@ pub extern "C" fn lumeviqo_superblock(page: &[u8], answer: &mut [u8]) -> usize
 
 #[no_mangle]
 pub extern "C" fn lumeviqo_superblock_checked(page: &[u8], answer: &mut [u8]) -> usize
-    ensures { λ r. ⌜ (r ≡ pick (hasRoom 63 (now (answer .entry))) 63 0) × (now (answer .exit) ≡ told (hasRoom 63 (now (answer .entry))) (superblockBytes (checkedOf (now (page .entry)))) (now (answer .entry))) ⌝ }
+    ensures { λ r. ⌜ (r ≡ returned (hasRoom 63 (now (answer .entry))) 63)
+        × (now (answer .exit) ≡ told (hasRoom 63 (now (answer .entry))) (superblockBytes (checkedOf (now (page .entry)))) (now (answer .entry))) ⌝ }
 {
     if answer.len() < 63 {
         return 0;

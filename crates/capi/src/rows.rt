@@ -2,11 +2,10 @@
 ghost use mathlib.Core.Path.{_≡_};
 ghost use lib.ListN.{length};
 ghost use Rattle.lists.specs.Bytes.{hasBit};
-ghost use Rattle.lists.specs.Cases.{pick};
 ghost use Rattle.slotted.specs.Parses.{parsedOf};
 ghost use Rattle.slotted.specs.RowAnswers.{rowsOf, rowOf, rowAnswerOf};
 ghost use Rattle.layout.specs.Layouts.{parseBytes, rowCountBytes, rowBytes};
-ghost use Rattle.capi.specs.Buffers.{hasRoom, told};
+ghost use Rattle.capi.specs.Buffers.{hasRoom, returned, told};
 use crate::directories::write_parse;
 use crate::directories::write_row;
 use crate::directories::write_row_count;
@@ -19,7 +18,8 @@ pub extern "C" fn lumeviqo_parse(
     leniency: u8,
     answer: &mut [u8],
 ) -> usize
-    ensures { λ r. ⌜ (r ≡ pick (hasRoom 919 (now (answer .entry))) 919 0) × (now (answer .exit) ≡ told (hasRoom 919 (now (answer .entry))) (parseBytes (parsedOf 0x300 number (now (plain .entry)) (hasBit leniency 2))) (now (answer .entry))) ⌝ }
+    ensures { λ r. ⌜ (r ≡ returned (hasRoom 919 (now (answer .entry))) 919)
+        × (now (answer .exit) ≡ told (hasRoom 919 (now (answer .entry))) (parseBytes (parsedOf 0x300 number (now (plain .entry)) (hasBit leniency 2))) (now (answer .entry))) ⌝ }
 {
     if answer.len() < 919 {
         return 0;
@@ -37,7 +37,8 @@ pub extern "C" fn lumeviqo_row_count(
     leniency: u8,
     answer: &mut [u8],
 ) -> usize
-    ensures { λ r. ⌜ (r ≡ pick (hasRoom 42 (now (answer .entry))) 42 0) × (now (answer .exit) ≡ told (hasRoom 42 (now (answer .entry))) (rowCountBytes (parsedOf 0x300 number (now (plain .entry)) (hasBit leniency 2) .answer) (length (rowsOf 0x300 (now (plain .entry)) (hasBit leniency 2)))) (now (answer .entry))) ⌝ }
+    ensures { λ r. ⌜ (r ≡ returned (hasRoom 42 (now (answer .entry))) 42)
+        × (now (answer .exit) ≡ told (hasRoom 42 (now (answer .entry))) (rowCountBytes (parsedOf 0x300 number (now (plain .entry)) (hasBit leniency 2) .answer) (length (rowsOf 0x300 (now (plain .entry)) (hasBit leniency 2)))) (now (answer .entry))) ⌝ }
 {
     if answer.len() < 42 {
         return 0;
@@ -58,7 +59,8 @@ pub extern "C" fn lumeviqo_row(
     row: usize,
     answer: &mut [u8],
 ) -> usize
-    ensures { λ r. ⌜ (r ≡ pick (hasRoom 44 (now (answer .entry))) 44 0) × (now (answer .exit) ≡ told (hasRoom 44 (now (answer .entry))) (rowBytes (rowAnswerOf 0x300 number (now (plain .entry)) (hasBit leniency 2) row) (rowOf 0x300 (now (plain .entry)) (hasBit leniency 2) row)) (now (answer .entry))) ⌝ }
+    ensures { λ r. ⌜ (r ≡ returned (hasRoom 44 (now (answer .entry))) 44)
+        × (now (answer .exit) ≡ told (hasRoom 44 (now (answer .entry))) (rowBytes (rowAnswerOf 0x300 number (now (plain .entry)) (hasBit leniency 2) row) (rowOf 0x300 (now (plain .entry)) (hasBit leniency 2) row)) (now (answer .entry))) ⌝ }
 {
     if answer.len() < 44 {
         return 0;
