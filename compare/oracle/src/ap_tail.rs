@@ -27,20 +27,33 @@ pub mod reached {
         }
 
         pub fn deobfuscate(&self, anchors: &BTreeSet<u8>, opts: &ReadOptions) -> Result<DeobfuscatedPage> {
-            let (page, pn) = (self.page, self.page.index());
-            if page.is_unallocated() {
-                return Ok(unallocated_page(page));
-            }
-            let mut warnings = Vec::new();
-            if let Err(err) = check_integrity(page) {
-                if !opts.leniency.contains(Leniency::INTEGRITY) {
-                    return Err(err);
-                }
-                warnings.push(integrity_warning(&err, pn));
-            }
-            let choice = choose_bv(&self.scan, page.bytes(), pn, anchors, opts, &mut warnings)?;
-            finish(page, &self.scan, choice, opts, warnings)
+            judged(self.page, || &self.scan, anchors, opts)
         }
+    }
+
+    pub fn deobfuscate(page: Page<'_>, anchors: &BTreeSet<u8>, opts: &ReadOptions) -> Result<DeobfuscatedPage> {
+        judged(page, || scan_page(page.bytes(), page.index()), anchors, opts)
+    }
+
+    fn judged<S: std::borrow::Borrow<PageScan>>(
+        page: Page<'_>,
+        scan: impl FnOnce() -> S,
+        anchors: &BTreeSet<u8>,
+        opts: &ReadOptions,
+    ) -> Result<DeobfuscatedPage> {
+        if page.is_unallocated() {
+            return Ok(unallocated_page(page));
+        }
+        let mut warnings = Vec::new();
+        if let Err(err) = check_integrity(page) {
+            if !opts.leniency.contains(Leniency::INTEGRITY) {
+                return Err(err);
+            }
+            warnings.push(integrity_warning(&err, page.index()));
+        }
+        let scan = scan();
+        let choice = choose_bv(scan.borrow(), page.bytes(), page.index(), anchors, opts, &mut warnings)?;
+        finish(page, scan.borrow(), choice, opts, warnings)
     }
 
     pub fn integrity(page: Page<'_>) -> Result<()> {

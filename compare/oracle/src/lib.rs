@@ -2,6 +2,7 @@
 include!(concat!(env!("OUT_DIR"), "/modules.rs"));
 
 pub mod plain;
+pub mod timed;
 
 use std::collections::BTreeSet;
 
@@ -94,6 +95,11 @@ pub fn parse(number: u64, plain: &[u8], bits: u8) -> Result<Parsed, Refusal> {
     })
 }
 
+/// Whether the row count of a plain page is that of its directory; the original's T is 4.
+pub fn row_count_matches(plain: &[u8]) -> bool {
+    verify::trailer_row_count_matches(plain)
+}
+
 /// Bits that mean nothing mean nothing in the original either, but for 8, which opening a store alone asks.
 pub fn options(bits: u8) -> ReadOptions {
     let mut set = Leniency::STRICT;
@@ -144,25 +150,33 @@ fn superblock_fields(s: &superblock::Superblock) -> Superblock {
 fn decoded(d: &DeobfuscatedPage) -> Decoded {
     Decoded {
         bv: d.bv(),
-        source: match d.bv_source() {
-            BvSource::TrailerRowCount => 1,
-            BvSource::ExactSectors => 2,
-            BvSource::Histogram => 3,
-            BvSource::Supplied => 4,
-            BvSource::Corroborated => 5,
-            BvSource::Unallocated => 6,
-        },
-        confidence: match d.confidence() {
-            Confidence::Unallocated => 1,
-            Confidence::Unverified => 2,
-            Confidence::Corroborated => 3,
-            Confidence::Calibrated => 4,
-            Confidence::Verified => 5,
-        },
+        source: source(d.bv_source()),
+        confidence: confidence(d.confidence()),
         evidence: d.evidence().iter().map(evidence).collect(),
         fits: d.sectors().map(|f| Fit { step: f.step(), peak: narrow(f.peak()), runner_up: narrow(f.runner_up()), exact: f.exact() }),
         warnings: d.warnings().iter().map(warning).collect(),
         plain: d.bytes().to_vec(),
+    }
+}
+
+fn source(s: BvSource) -> u8 {
+    match s {
+        BvSource::TrailerRowCount => 1,
+        BvSource::ExactSectors => 2,
+        BvSource::Histogram => 3,
+        BvSource::Supplied => 4,
+        BvSource::Corroborated => 5,
+        BvSource::Unallocated => 6,
+    }
+}
+
+fn confidence(c: Confidence) -> u8 {
+    match c {
+        Confidence::Unallocated => 1,
+        Confidence::Unverified => 2,
+        Confidence::Corroborated => 3,
+        Confidence::Calibrated => 4,
+        Confidence::Verified => 5,
     }
 }
 

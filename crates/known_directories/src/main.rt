@@ -1,5 +1,5 @@
 // Pages whose answers are known: document 01's page with four rows, and one for each of the answers 1, 8 to 12 and 16, strictly and
-// leniently. What they must give was written down by the original, from the same pages (compare/bench-slots, `known`).
+// leniently. What they must give was written down by the original, from the same pages (compare/driver/src/bin/known.rs).
 use answers::Answer;
 use answers::Leniency;
 use answers::ParseWarnings;

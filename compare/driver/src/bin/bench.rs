@@ -1,160 +1,199 @@
-//! bench [ROUNDS]: both sides' times on the same pages, as ratios. Each round times both sides of every question, one after the other, the
-//! first of them changing with the round. A figure is the median over the rounds, with the quartiles.
+//! bench REPORT [ROUNDS]: both sides' times on the same pages, as ratios, after seeing that they answer alike. REPORT is the program `report`.
+//! Each round times all sides of every question, one after the other, the first of them changing with the round. A figure is the median
+//! over the rounds. It fails where an answer differs or a ratio is over its limit.
+use std::fs::File;
 use std::hint::black_box;
-use std::time::Instant;
+use std::path::{Path, PathBuf};
+use std::process::{Command, ExitCode};
 
-use compare::plan::{Fill, Plan, fill, slots, write_directory};
-use compare::random::Random;
-use lumeviqo::{Leniency, Options, PAGE, SHIFTED};
-use oracle::Reading;
+use compare::bench_pages::{BITS, COUNT, OPTIONS, Pages, falling, progressions, random, tables, zero};
+use compare::shrink::hex;
+use compare::timing::{Group, table, time};
+use lumeviqo::{Fits, Leniency, PAGE, SHIFTED};
+use oracle::timed;
 
-/// Pages of one kind: stored, and plain.
-struct Pages {
-    name: &'static str,
-    stored: Vec<Vec<u8>>,
-    plain: Vec<Vec<u8>>,
-}
-
-fn pages(name: &'static str, make: impl Fn(&mut Random, &mut Plan)) -> Pages {
-    let mut r = Random::new(7, name.len() as u64);
-    let plans: Vec<Plan> = (0..16)
-        .map(|k| {
-            let mut plan = Plan::new(&mut r);
-            plan.number = k;
-            make(&mut r, &mut plan);
-            plan
-        })
-        .collect();
-    Pages { name, stored: plans.iter().map(Plan::stored).collect(), plain: plans.iter().map(Plan::plain).collect() }
-}
-
-fn directory(r: &mut Random, plan: &mut Plan, n: usize) {
-    let list = slots(r, n, 0x400, 0xFF0);
-    write_directory(r, &mut plan.data, 0x40, 4, n as u16, &list);
-    plan.rows(n as u8);
-}
-
-fn main() {
-    let rounds: usize = std::env::args().nth(1).map_or(60, |a| a.parse().expect("ROUNDS is a number"));
-    let kinds = [
-        pages("exact", |_, _| {}),
-        pages("dense", |r, plan| {
-            for s in 0..8 {
-                fill(r, plan.sector(s), Fill::Dense);
-            }
-        }),
-        pages("mixed", |r, plan| {
-            for s in 2..8 {
-                let how = [Fill::Constant(0), Fill::Sparse(120), Fill::Text, Fill::Near][s % 4];
-                fill(r, plan.sector(s), how);
-            }
-            directory(r, plan, 120);
-        }),
-    ];
-    println!("| question | pages | reader / original | quartiles | original, a page |\n|---|---|---|---|---|");
-    for kind in &kinds {
-        crc(kind, rounds);
-        scan(kind, rounds);
-        decode(kind, rounds);
-        decode_summary(kind, rounds);
-        parse(kind, rounds);
+fn main() -> ExitCode {
+    let mut args = std::env::args().skip(1);
+    let report = PathBuf::from(args.next().expect("REPORT is the program report"));
+    let rounds = args.next().map_or(200, |a| a.parse().expect("ROUNDS is a number"));
+    let stored = progressions();
+    let plain: Vec<Pages> = tables().into_iter().chain([falling(), random(), zero()]).collect();
+    let frames = Frames::all(&stored);
+    let alike = stored.iter().chain(&plain).try_for_each(Pages::check).and_then(|_| frames.iter().try_for_each(|f| f.check(&report)));
+    if let Err(difference) = alike {
+        println!("{difference}");
+        return ExitCode::FAILURE;
     }
-}
 
-/// Times both, in turn, over all pages of a kind.
-fn ratio(question: &str, kind: &Pages, rounds: usize, mut reader: impl FnMut(usize), mut original: impl FnMut(usize)) {
-    let n = kind.stored.len();
-    let (mut ratios, mut times) = (Vec::new(), Vec::new());
-    for round in 0..rounds + 1 {
-        let mut one = 0.0;
-        let mut other = 0.0;
-        for turn in 0..2 {
-            let begun = Instant::now();
-            if (round + turn) % 2 == 0 {
-                (0..n).for_each(&mut reader);
-                one = begun.elapsed().as_secs_f64();
-            } else {
-                (0..n).for_each(&mut original);
-                other = begun.elapsed().as_secs_f64();
-            }
-        }
-        // The first round warms code and pages, and is not counted.
-        if round > 0 {
-            ratios.push(one / other);
-            times.push(other / n as f64 * 1e6);
-        }
+    let mut groups = vec![crc(&stored)];
+    groups.extend(stored.iter().map(scan));
+    groups.extend(stored.iter().map(decode));
+    groups.extend(stored.iter().map(supplied));
+    for (question, leniency) in [("parse, strict", Leniency::STRICT), ("parse, DIRECTORY", Leniency::DIRECTORY)] {
+        groups.extend(stored.iter().chain(&plain).map(|pages| parse(question, pages, leniency)));
     }
-    ratios.sort_by(f64::total_cmp);
-    times.sort_by(f64::total_cmp);
-    let at = |v: &[f64], q: usize| v[(v.len() - 1) * q / 4];
-    println!(
-        "| {question} | {} | {:.2} | {:.2} to {:.2} | {:.1} µs |",
-        kind.name,
-        at(&ratios, 2),
-        at(&ratios, 1),
-        at(&ratios, 3),
-        at(&times, 2)
-    );
+    groups.extend(plain[1..4].iter().map(rows));
+    groups.push(reports(&frames, &report));
+    time(&mut groups, rounds);
+
+    let (table, over) = table(&groups);
+    println!("{table}\n");
+    if over.is_empty() {
+        println!("{rounds} rounds, no ratio is over its limit");
+        return ExitCode::SUCCESS;
+    }
+    println!("{rounds} rounds, over their limit: {}", over.join("; "));
+    ExitCode::FAILURE
 }
 
-fn crc(kind: &Pages, rounds: usize) {
-    let p = &kind.stored;
-    ratio("CRC", kind, rounds, |k| _ = black_box(lumeviqo::crc32(&p[k][..4092])), |k| _ = black_box(oracle::crc32(&p[k][..4092])));
+/// Three pages of each kind: they stay in the first cache.
+fn crc(kinds: &[Pages]) -> Group<'_> {
+    let inputs: Vec<&[u8]> = kinds.iter().flat_map(|k| k.stored[..3].iter().map(|p| &p[..4092])).collect();
+    let mut g = Group::default();
+    let [reader, with, without] = [lumeviqo::crc32, timed::crc32_pclmulqdq, timed::crc32_baseline].map(|crc| {
+        let inputs = inputs.clone();
+        g.side(inputs.len(), move || inputs.iter().for_each(|p| _ = black_box(crc(black_box(p)))))
+    });
+    g.ratio("CRC of 4,092 bytes, beside crc32fast with PCLMULQDQ", "exact, dense, mixed", reader, with, Some(2.2));
+    g.ratio("CRC of 4,092 bytes, beside crc32fast without", "exact, dense, mixed", reader, without, Some(0.4));
+    g
 }
 
-fn scan(kind: &Pages, rounds: usize) {
-    let p = &kind.stored;
+/// A side that asks a question of each of the eight pages.
+fn each<'a>(g: &mut Group<'a>, mut ask: impl FnMut(usize) + 'a) -> usize {
+    g.side(COUNT, move || (0..COUNT).for_each(&mut ask))
+}
+
+/// The original has no replacement: it scans the page anew.
+fn scan(pages: &Pages) -> Group<'_> {
+    let p = &pages.stored;
+    let mut g = Group::default();
     let mut shifted = [0; SHIFTED];
-    ratio(
-        "scan",
-        kind,
-        rounds,
-        |k| drop(black_box(lumeviqo::scan(k as u64, &p[k], &mut shifted))),
-        |k| drop(black_box(Reading::new(k as u64, &p[k]).map(|r| r.fits()))),
-    );
+    let reader = each(&mut g, move |k| drop(black_box(lumeviqo::scan(k as u64, &p[k], &mut shifted))));
+    let original = each(&mut g, |k| timed::scan(k as u64, &p[k]));
+    let (mut stored, mut summaries) = (p.clone(), summaries(pages));
+    let replacement = each(&mut g, move |k| {
+        let (fits, shifted) = &mut summaries[k];
+        let answer = lumeviqo::replace(k as u64, &mut stored[k], shifted, fits, k, pages.replacement(k));
+        *fits = answer.expect("the sector and the lengths are right");
+    });
+    g.ratio("scan of a page", pages.name, reader, original, Some(1.0));
+    g.ratio("replacement of a sector, of the original's scan", pages.name, replacement, original, None);
+    g
 }
 
-fn decode(kind: &Pages, rounds: usize) {
-    let p = &kind.stored;
-    let mut out = [0; PAGE];
-    let options = Options { leniency: Leniency(7), ..Options::default() };
-    ratio(
-        "decoding",
-        kind,
-        rounds,
-        |k| drop(black_box(lumeviqo::decode(k as u64, &p[k], &[], options, &mut out))),
-        |k| drop(black_box(Reading::new(k as u64, &p[k]).and_then(|r| r.decode(&[], 7)))),
-    );
+/// The fits and the shifted bytes of each page.
+fn summaries(pages: &Pages) -> Vec<(Fits, [u8; SHIFTED])> {
+    let summary = |(k, page): (usize, &Vec<u8>)| {
+        let mut shifted = [0; SHIFTED];
+        (lumeviqo::scan(k as u64, page, &mut shifted).expect("the lengths are right"), shifted)
+    };
+    pages.stored.iter().enumerate().map(summary).collect()
 }
 
-/// The original has no summaries: its time is that of the choice and the plaintext, with the scan made before.
-fn decode_summary(kind: &Pages, rounds: usize) {
-    let p = &kind.stored;
+fn decode(pages: &Pages) -> Group<'_> {
+    let p = &pages.stored;
+    let mut g = Group::default();
     let mut out = [0; PAGE];
-    let options = Options { leniency: Leniency(7), ..Options::default() };
-    let summaries: Vec<_> = (0..p.len())
-        .map(|k| {
-            let mut shifted = [0; SHIFTED];
-            (lumeviqo::scan(k as u64, &p[k], &mut shifted).expect("the lengths are right"), shifted)
-        })
+    let reader = each(&mut g, move |k| drop(black_box(lumeviqo::decode(k as u64, &p[k], &[], OPTIONS, &mut out))));
+    let original = each(&mut g, |k| timed::decode(k as u64, &p[k], BITS));
+    let summaries = summaries(pages);
+    let beside = each(&mut g, move |k| {
+        let (fits, shifted) = &summaries[k];
+        drop(black_box(lumeviqo::decode_summary(k as u64, &p[k], fits, shifted, &[], OPTIONS, &mut out)));
+    });
+    g.ratio("decoding", pages.name, reader, original, None);
+    g.ratio("decoding of a page scanned before, of the original's decoding", pages.name, beside, original, Some(0.01));
+    g
+}
+
+fn supplied(pages: &Pages) -> Group<'_> {
+    let p = &pages.stored;
+    let mut g = Group::default();
+    let mut out = [0; PAGE];
+    let reader = each(&mut g, move |k| drop(black_box(lumeviqo::decode_supplied(k as u64, &p[k], pages.bv(k), OPTIONS, &mut out))));
+    let original = each(&mut g, |k| timed::decode_supplied(k as u64, &p[k], pages.bv(k), BITS));
+    g.ratio("decoding with a supplied bv", pages.name, reader, original, None);
+    g
+}
+
+fn parse<'a>(question: &'static str, pages: &'a Pages, leniency: Leniency) -> Group<'a> {
+    let p = &pages.plain;
+    let mut g = Group::default();
+    let reader = each(&mut g, move |k| drop(black_box(lumeviqo::parse(k as u64, &p[k], leniency))));
+    let original = each(&mut g, move |k| timed::parse(k as u64, &p[k], leniency.0));
+    g.ratio(question, pages.name, reader, original, None);
+    g
+}
+
+fn rows(pages: &Pages) -> Group<'_> {
+    let p = &pages.plain;
+    let mut g = Group::default();
+    let reader = each(&mut g, |k| drop(black_box(lumeviqo::rows(k as u64, &p[k], Leniency::DIRECTORY))));
+    let original = each(&mut g, |k| timed::rows(k as u64, &p[k], Leniency::DIRECTORY.0));
+    g.ratio("list of all rows, DIRECTORY", pages.name, reader, original, None);
+    g
+}
+
+/// A file of frames for `report`, which goes when this does.
+struct Frames {
+    name: &'static str,
+    count: usize,
+    file: PathBuf,
+}
+
+impl Frames {
+    /// Twelve times the pages of each kind, and a thousand pages of zeros.
+    fn all(kinds: &[Pages]) -> Vec<Frames> {
+        let zeros = [vec![0; PAGE]];
+        let kinds = kinds.iter().map(|k| Frames::new(k.name, &k.stored, 12 * COUNT));
+        kinds.chain([Frames::new("all zero", &zeros, 1000)]).collect()
+    }
+
+    fn new(name: &'static str, pages: &[Vec<u8>], count: usize) -> Self {
+        let frame = |k: usize| format!("{:016x}{BITS:02x}0400{}\n", k % pages.len(), hex(&pages[k % pages.len()]));
+        let file = std::env::temp_dir().join(format!("lumeviqo-{}-{name}", std::process::id()));
+        std::fs::write(&file, (0..count).map(frame).collect::<String>()).expect("a file for the frames");
+        Frames { name, count, file }
+    }
+
+    fn check(&self, report: &Path) -> Result<(), String> {
+        let lines = run(report, &self.file);
+        let alike = lines == run(&original_report(), &self.file) && lines.iter().filter(|&&b| b == b'\n').count() == self.count;
+        alike.then_some(()).ok_or_else(|| format!("lines of {} frames differ", self.name))
+    }
+}
+
+impl Drop for Frames {
+    fn drop(&mut self) {
+        _ = std::fs::remove_file(&self.file);
+    }
+}
+
+/// What a program answers to the frames of a file.
+fn run(program: &Path, frames: &Path) -> Vec<u8> {
+    let frames = File::open(frames).expect("the file was just written");
+    let output = Command::new(program).stdin(frames).output().unwrap_or_else(|e| panic!("{}: {e}", program.display()));
+    assert!(output.status.success(), "{} failed", program.display());
+    output.stdout
+}
+
+/// It is built beside this program.
+fn original_report() -> PathBuf {
+    std::env::current_exe().expect("this program has a path").with_file_name("original_report")
+}
+
+/// Both programs on each kind of frames. A page of zeros is not scanned: what is left is what a frame costs.
+fn reports<'a>(frames: &'a [Frames], report: &'a Path) -> Group<'a> {
+    let mut g = Group::default();
+    let sides: Vec<_> = frames
+        .iter()
+        .map(|f| [report.to_path_buf(), original_report()].map(|program| g.side(f.count, move || drop(run(&program, &f.file)))))
         .collect();
-    let readings: Vec<_> = (0..p.len()).map(|k| Reading::new(k as u64, &p[k]).expect("the length is right")).collect();
-    ratio(
-        "decoding, scanned before",
-        kind,
-        rounds,
-        |k| drop(black_box(lumeviqo::decode_summary(k as u64, &p[k], &summaries[k].0, &summaries[k].1, &[], options, &mut out))),
-        |k| drop(black_box(readings[k].decode(&[], 7))),
-    );
-}
-
-fn parse(kind: &Pages, rounds: usize) {
-    let p = &kind.plain;
-    ratio(
-        "parse",
-        kind,
-        rounds,
-        |k| drop(black_box(lumeviqo::parse(k as u64, &p[k], Leniency(2)))),
-        |k| drop(black_box(oracle::parse(k as u64, &p[k], 2))),
-    );
+    for (f, [reader, original]) in frames.iter().zip(&sides) {
+        g.ratio("the program `report`", f.name, *reader, *original, None);
+    }
+    let ([_, exact], [zero, _]) = (sides[0], sides[3]);
+    g.ratio("a frame of zeros, of the original's exact page", "all zero", zero, exact, Some(0.02));
+    g
 }

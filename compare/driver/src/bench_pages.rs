@@ -1,0 +1,127 @@
+//! The pages that are timed, eight of a kind, stored and plain.
+use lumeviqo::{Leniency, Options, PAGE};
+use oracle::{Reading, timed};
+
+use crate::checks::{Difference, compare};
+use crate::kinds::Case;
+use crate::plan::{DATA, Plan, put};
+use crate::random::Random;
+use crate::tally::Tally;
+use crate::told;
+
+pub const COUNT: usize = 8;
+/// KEYSTREAM: pages without rows and exact sectors are decoded to their end.
+pub const BITS: u8 = 1;
+pub const OPTIONS: Options = Options { leniency: Leniency(BITS), min_trailer_count: 4 };
+
+pub struct Pages {
+    pub name: &'static str,
+    plans: Vec<Plan>,
+    pub stored: Vec<Vec<u8>>,
+    pub plain: Vec<Vec<u8>>,
+}
+
+impl Pages {
+    fn new(name: &'static str, mut make: impl FnMut(&mut Random, &mut Plan)) -> Self {
+        let mut r = Random::new(7, 1);
+        let plans: Vec<Plan> = (0..COUNT as u64)
+            .map(|number| {
+                let steps = std::array::from_fn(|_| r.byte());
+                let mut plan = Plan { number, data: vec![0; DATA], steps, bv: r.byte(), trailer: [0; 12], off: 0 };
+                make(&mut r, &mut plan);
+                plan
+            })
+            .collect();
+        Pages { name, stored: plans.iter().map(Plan::stored).collect(), plain: plans.iter().map(Plan::plain).collect(), plans }
+    }
+
+    pub fn bv(&self, k: usize) -> u8 {
+        self.plans[k].bv
+    }
+
+    /// What sector k of page k is replaced by: that of the next page.
+    pub fn replacement(&self, k: usize) -> &[u8] {
+        &self.stored[(k + 1) % COUNT][k * 512..(k * 512 + 512).min(DATA)]
+    }
+
+    /// Whether both sides answer every question about them alike, with the bits that are timed; if not, where they differ.
+    pub fn check(&self) -> Result<(), String> {
+        for k in 0..COUNT {
+            for bits in [BITS, 0] {
+                let differ = |d: Difference| format!("{} pages differ at: {}\n{}", self.name, d.question, d.detail);
+                compare(&self.case(k, bits), &mut Tally::default()).map_err(differ)?;
+            }
+            if !self.same_crc(k) || !self.same_supplied(k) {
+                return Err(format!("{} pages differ at the CRC of 4,092 bytes, or at a supplied bv", self.name));
+            }
+        }
+        Ok(())
+    }
+
+    /// `compare` takes the CRC of other bytes.
+    fn same_crc(&self, k: usize) -> bool {
+        let [reader, fast, table] = [lumeviqo::crc32, timed::crc32_pclmulqdq, timed::crc32_baseline].map(|f| f(&self.stored[k][..4092]));
+        reader == fast && reader == table
+    }
+
+    /// `compare` has the reader scan anew for some pages alone.
+    fn same_supplied(&self, k: usize) -> bool {
+        let mut out = [0; PAGE];
+        let reader = lumeviqo::decode_supplied(k as u64, &self.stored[k], self.bv(k), OPTIONS, &mut out);
+        let original = Reading::new(k as u64, &self.stored[k]).and_then(|r| r.decode_supplied(self.bv(k), BITS));
+        reader.map(|d| told::decoded(d, &out)).map_err(told::refusal) == original
+    }
+
+    fn case(&self, k: usize, bits: u8) -> Case {
+        Case {
+            kind: self.name,
+            number: k as u64,
+            page: self.stored[k].clone(),
+            bits,
+            anchors: Vec::new(),
+            bv: self.bv(k),
+            plain: Some(self.plain[k].clone()),
+            replacements: vec![(k, self.replacement(k).to_vec())],
+        }
+    }
+}
+
+/// Progressions, with noise of so many bytes in 256.
+pub fn progressions() -> [Pages; 3] {
+    [("exact", 0), ("dense", 256), ("mixed", 96)].map(|(name, noise)| {
+        Pages::new(name, |r, plan| {
+            plan.data.fill_with(|| if r.below(256) < noise { r.byte() } else { 0 });
+            plan.rows(r.below(60) as u8);
+            plan.trailer[2] = b'E';
+        })
+    })
+}
+
+/// Pages with so many rows behind a prelude, random bytes around them.
+pub fn tables() -> [Pages; 3] {
+    [("0 rows", 0), ("50 rows", 50), ("200 rows", 200)].map(|(name, rows)| {
+        Pages::new(name, |r, plan| {
+            plan.data = r.bytes(DATA);
+            put(&mut plan.data, 0x40, rows as u16);
+            (0..rows).for_each(|k| put(&mut plan.data, 0x44 + 2 * k, (0xFE0 - k * 2800 / rows) as u16));
+            put(&mut plan.data, 0x44 + 2 * rows, 0xFFFF);
+            plan.rows(rows as u8);
+        })
+    })
+}
+
+/// The most slots that a page can have, each below the one before, and no prelude.
+pub fn falling() -> Pages {
+    Pages::new("384 falling slots", |_, plan| (0..384).for_each(|k| put(&mut plan.data, 2 * k, (0xFE0 - 8 * k) as u16)))
+}
+
+pub fn random() -> Pages {
+    Pages::new("random", |r, plan| {
+        plan.data = r.bytes(DATA);
+        plan.trailer.fill_with(|| r.byte());
+    })
+}
+
+pub fn zero() -> Pages {
+    Pages::new("all zero", |_, _| {})
+}

@@ -1,2 +1,0 @@
--- What the exported function answers.
-pub mod Settled

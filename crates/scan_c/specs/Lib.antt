@@ -1,2 +1,0 @@
--- What the contract of `scan_c` cites.
-pub mod Packed

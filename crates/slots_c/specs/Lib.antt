@@ -1,2 +1,0 @@
--- What the exported functions return: an answer in one number.
-pub mod Codes
