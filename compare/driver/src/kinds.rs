@@ -288,7 +288,8 @@ fn inside(r: &mut Random) -> Case {
     let mut list = slots(r, n, start + 2 * n + 4, 0xFF0);
     // The last few point at the array, its edges, or before it.
     let edge = [start - 2, start, start + 1, start + 2 * n - 1, start + 2 * n, 0x20, 0x1F];
-    let mut low: Vec<u16> = (0..r.from_to(1, 6)).map(|_| if r.one_in(2) { r.of(&edge) } else { r.from_to(start, start + 2 * n) } as u16).collect();
+    let mut low: Vec<u16> =
+        (0..r.from_to(1, 6)).map(|_| if r.one_in(2) { r.of(&edge) } else { r.from_to(start, start + 2 * n) } as u16).collect();
     low.sort_unstable_by(|a, b| b.cmp(a));
     let k = low.len().min(n - 1);
     list[n - k..].copy_from_slice(&low[..k]);

@@ -8,6 +8,7 @@
 //
 // An answer is a line: the layout of include/lumeviqo.h in hexadecimal, then the CRC-32 of each buffer that the function may write to.
 // stdin and stdout were made beside the original, by compare/driver/src/bin/freeze.rs; the program needs no original.
+use answers::Answer;
 use libc::STDIN_FILENO;
 use libc::STDOUT_FILENO;
 ghost use lib.ListN.{length};
@@ -133,6 +134,7 @@ fn answer(asked: u8, q: Question, page: &mut [u8], anchors: &[u8], bytes: &[u8])
         10 => parse(q, page),
         11 => row_count(q, page),
         12 => row(q, page),
+        13 => too_many(q.number),
         _ => text(b"?"),
     }
 }
@@ -254,6 +256,12 @@ fn row_count(q: Question, plain: &[u8]) {
 fn row(q: Question, plain: &[u8]) {
     let mut answer = [0u8; 44];
     capi::lumeviqo_row(q.number, plain, q.leniency, q.place as usize, &mut answer);
+    hex(&answer);
+}
+
+// No page has more than eight candidates: what that answer would look like.
+fn too_many(number: u64) {
+    let answer = layout::answer_bytes(Answer::TooManyCandidates(number));
     hex(&answer);
 }
 

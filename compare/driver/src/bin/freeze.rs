@@ -25,6 +25,7 @@ enum Asked {
     Parse,
     RowCount,
     Row,
+    TooMany,
 }
 
 struct Question<'a> {
@@ -72,7 +73,7 @@ fn main() {
     };
     let seed = seed.parse().expect("SEED is a number");
     let mut frozen = Frozen::default();
-    for index in 0..20_000 {
+    for index in 0..6_000 {
         let case = case(seed, index);
         fields(&case, &mut frozen);
         if case.page.len() == 4096 {
@@ -82,6 +83,7 @@ fn main() {
             rows(&case, plain, &mut frozen);
         }
     }
+    too_many(&case(seed, 0), &mut frozen);
     println!("{} questions, which show {} things", frozen.questions, frozen.shown.len());
     write(Path::new(folder).join("stdin"), frozen.stdin).expect("FOLDER/stdin can be written");
     write(Path::new(folder).join("stdout"), frozen.stdout).expect("FOLDER/stdout can be written");
@@ -121,6 +123,12 @@ fn number<T>(answer: &Result<T, Refusal>) -> String {
 
 fn refused(number: u8, value: usize) -> Refusal {
     Refusal { number, values: vec![value as u64], candidates: Vec::new() }
+}
+
+/// Answer 15, which no page gives.
+fn too_many(case: &Case, frozen: &mut Frozen) {
+    let answer = Err(refused(15, case.number as usize));
+    frozen.take(about(Asked::TooMany, case, &[]), Expected { line: hex(&layouts::integrity(&answer)), shows: vec![number(&answer)] });
 }
 
 /// CRC, trailer, integrity, superblock; on lengths that are no page's too.
@@ -213,7 +221,8 @@ fn replacement(case: &Case, sector: usize, bytes: &[u8], before: &Reading<'_>, f
     let after = Reading::new(case.number, &page).expect("its length is right");
     let (shown, refusal) = if fitting { (&after, None) } else { (before, Some(refused(14, sector))) };
     let decoded = after.decode(&case.anchors, case.bits);
-    let line = hex(&layouts::fits(refusal.as_ref(), &shown.fits())) + &crc(&page) + &crc(&shown.shifted()) + " " + &decoding_line(&decoded, 4096);
+    let line =
+        hex(&layouts::fits(refusal.as_ref(), &shown.fits())) + &crc(&page) + &crc(&shown.shifted()) + " " + &decoding_line(&decoded, 4096);
     let shows = vec![format!("fitting {fitting} sector {sector}"), number(&decoded)];
     let asked = about(Asked::Replacement, case, &case.page);
     frozen.take(Question { place: sector, bytes, room: 4080, ..asked }, Expected { line, shows });
