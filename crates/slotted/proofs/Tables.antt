@@ -16,7 +16,7 @@ use Rattle.answers.specs.declared.notices.WarningKind.{WarningKind}
 use Rattle.answers.specs.declared.notices.ParseWarnings.{ParseWarnings}
 use Rattle.slotted.specs.Rows.{slotsOf}
 use Rattle.slotted.specs.Decisions.{answerOf, decisionOf}
-use Rattle.slotted.specs.Parses.{tableOf, directoryOf, isListed, warned, parsedBy, parsedOf}
+use Rattle.slotted.specs.Parses.{tableOf, directoryOf, isListed, warned, warningsOf, parsedBy, parsedOf}
 use Rattle.slotted.specs.declared.verdicts.Decided.{Decided}
 use Rattle.slotted.specs.declared.directories.SlotDirectory.{SlotDirectory}
 use Rattle.slotted.specs.declared.directories.Parsed.{Parsed}
@@ -53,13 +53,10 @@ module _ (t : ParseWarnings) (page : ℕ) (kind : WarningKind) where
 
 -- the answer, part by part
 module _ (lim page : ℕ) (p : List ℕ) (lenient : Bool) (d : Decided) (e : d ≡ decisionOf lim p lenient) where
-  pub parsed-is : (a : Answer) (f : Bool) (s : SlotDirectory) (w w1 w2 w3 : ParseWarnings) → a ≡ answerOf page (d .verdict) → f ≡ isListed (d .listed) → s ≡ directoryOf p (d .listed)
-      → w ≡ noParseWarnings → w1 ≡ warned w page (d .first) → w2 ≡ warned w1 page (d .second) → w3 ≡ warned w2 page (d .third)
-      → record { answer = a; found = f; directory = s; warnings = w3 } ≡ parsedOf lim page p lenient
+  pub parsed-is : (a : Answer) (f : Bool) (s : SlotDirectory) (w : ParseWarnings) → a ≡ answerOf page (d .verdict) → f ≡ isListed (d .listed) → s ≡ directoryOf p (d .listed)
+      → w ≡ warningsOf page d
+      → record { answer = a; found = f; directory = s; warnings = w } ≡ parsedOf lim page p lenient
   unfolding parsedOf
-  parsed-is a f s w w1 w2 w3 ea ef es e0 e1 e2 e3 =
-      let x1 : w1 ≡ warned noParseWarnings page (d .first) = e1 ∙ ap (λ (t : ParseWarnings). warned t page (d .first)) e0 in
-      let x2 : w2 ≡ warned (warned noParseWarnings page (d .first)) page (d .second) = e2 ∙ ap (λ (t : ParseWarnings). warned t page (d .second)) x1 in
-      let x3 : w3 ≡ warned (warned (warned noParseWarnings page (d .first)) page (d .second)) page (d .third) = e3 ∙ ap (λ (t : ParseWarnings). warned t page (d .third)) x2 in
-      let whole : _≡_ {A = Parsed} (record { answer = a; found = f; directory = s; warnings = w3 }) (parsedBy page p d) = λ i. record { answer = ea i; found = ef i; directory = es i; warnings = x3 i } in
+  parsed-is a f s w ea ef es ew =
+      let whole : _≡_ {A = Parsed} (record { answer = a; found = f; directory = s; warnings = w }) (parsedBy page p d) = λ i. record { answer = ea i; found = ef i; directory = es i; warnings = ew i } in
       whole ∙ ap (parsedBy page p) e

@@ -12,6 +12,7 @@ ghost use mathlib.Core.List.{[]};
 ghost use Prim.Native.Nat.{ℕ, _+_, _*_, _≤_, min};
 ghost use lib.ListN.{length};
 ghost use Rattle.lists.specs.Bytes.{hasBit};
+ghost use Rattle.answers.specs.Warns.{noParseWarnings};
 ghost use Rattle.slotted.specs.Rows.{slotsOf};
 ghost use Rattle.slotted.specs.Decisions.{SoundIn};
 ghost use Rattle.slotted.specs.Parses.{tableOf, noDirectory, directoryAt, directoryOf, isListed, warned, parsedOf};
@@ -52,14 +53,36 @@ pub fn parse(page: u64, plain: &[u8], leniency: Leniency) -> Parsed
     let answer = verdict.answer(page);
     let found = is_listed(listed);
     let directory = tabled(plain, listed);
-    let none = ParseWarnings::none();
-    let warnings = warn(warn(warn(none, page, first), page, second), page, third);
+    let warnings = given(page, first, second, third);
     Parsed {
         answer,
         found,
         directory,
         warnings,
     }
+}
+
+// The table of the warnings that were given. It is long, and most pages give none: it is then made in its place, and not moved.
+fn given(page: u64, first: WarningKind, second: WarningKind, third: WarningKind) -> ParseWarnings
+    ensures { λ r. ⌜ r ≡ warned (warned (warned noParseWarnings page first) page second) page third ⌝ }
+{
+    if first.number() != 0 {
+        return listed(page, first, second, third);
+    }
+    if second.number() != 0 {
+        return listed(page, first, second, third);
+    }
+    if third.number() != 0 {
+        return listed(page, first, second, third);
+    }
+    ParseWarnings::none()
+}
+
+fn listed(page: u64, first: WarningKind, second: WarningKind, third: WarningKind) -> ParseWarnings
+    ensures { λ r. ⌜ r ≡ warned (warned (warned noParseWarnings page first) page second) page third ⌝ }
+{
+    let none = ParseWarnings::none();
+    warn(warn(warn(none, page, first), page, second), page, third)
 }
 
 // One warning more, unless it is `Nothing`.

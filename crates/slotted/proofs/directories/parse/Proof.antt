@@ -26,32 +26,20 @@ tabled-requires c κs =
     let a = d .before .before .before .args in
     sound-decided 0x300 (a .plain .now) _ (d .decide .result) (d .decide .ensures)
 
-none-requires : tie.Need-none-requires
-none-requires c κs = search needs
-
-warn-requires : tie.Need-warn-requires
-warn-requires c κs = search needs
-
-warn-requires-2 : tie.Need-warn-requires-2
-warn-requires-2 c κs = search needs
-
-warn-requires-3 : tie.Need-warn-requires-3
-warn-requires-3 c κs = search needs
+given-requires : tie.Need-given-requires
+given-requires c κs = search needs
 
 returns : tie.Need-returns
 returns c =
-    let w2 = c .before in
-    let w1 = w2 .before in
-    let n = w1 .before in
-    let t = n .before in
+    let t = c .before in
     let l = t .before in
     let v = l .before in
     let d = v .before in
     let a = d .before .before .before .args in
     parsed-is 0x300 (a .page) (a .plain .now) (hasBit (a .leniency .bits) 2) (d .decide .result)
     (d .decide .ensures ∙ ap (decisionOf 0x300 (a .plain .now)) (d .before .directory .ensures))
-    (v .answer .result) (l .is-listed .result) (t .tabled .result) (n .none .result) (w1 .warn .result) (w2 .warn2 .result) (c .warn3 .result)
-    (v .answer .ensures) (l .is-listed .ensures) (t .tabled .ensures) (n .none .ensures) (w1 .warn .ensures) (w2 .warn2 .ensures) (c .warn3 .ensures)
+    (v .answer .result) (l .is-listed .result) (t .tabled .result) (c .given .result)
+    (v .answer .ensures) (l .is-listed .ensures) (t .tabled .ensures) (c .given .ensures)
 
 pub parse-spec : {M : Type 1} → statement M
 parse-spec =
@@ -62,8 +50,5 @@ parse-spec =
     answer-requires
     is-listed-requires
     tabled-requires
-    none-requires
-    warn-requires
-    warn-requires-2
-    warn-requires-3
+    given-requires
     returns)
