@@ -12,6 +12,7 @@ use Rattle.lists.specs.Bytes.{byteAt, pairAt, plainOf}
 use Rattle.lists.specs.Pieces.{each, keep}
 use Rattle.lists.proofs.Keep.{keep-yes, keep-no}
 use Rattle.slots.specs.Slots.{scannedDirectory, preludeOf}
+use Rattle.slots.specs.declared.scans.Scan.{Scan}
 use Rattle.slots.specs.declared.scans.Found.{Found}
 use Rattle.slots.specs.declared.scans.Found.the-variants as scan
 use Rattle.slots.specs.declared.preludes.Prelude.{Prelude}
@@ -20,7 +21,7 @@ use Rattle.slots.proofs.Pages.{plain-zero}
 use Rattle.answers.specs.declared.notices.WarningKind.{WarningKind}
 use Rattle.answers.specs.declared.notices.WarningKind.the-variants as warning
 use Rattle.slotted.specs.Rows.{slotsOf, isInside, insideOf, tallyOf, Sound}
-use Rattle.slotted.specs.Decisions.{refusal, taken, fewOf, unconfirmedOf, manyOf, foundOf, checkedBy, checkedAt, checkedIn, checkedOf, decisionOf, SoundIn}
+use Rattle.slotted.specs.Decisions.{refusal, taken, fewOf, unconfirmedOf, manyOf, foundOf, checkedBy, checkedAt, checkedIn, checkedOf, decisionOf, ListedAs, SoundIn}
 use Rattle.slotted.specs.declared.verdicts.Verdict.{Verdict}
 use Rattle.slotted.specs.declared.verdicts.Verdict.the-variants.{WrongLength, OffsetInside}
 use Rattle.slotted.specs.declared.verdicts.Listed.{Listed}
@@ -157,70 +158,77 @@ look-all p start count stop k first dropped g h =
     let z : k ≡ count = omega (arith, g .within) in
     g .so-far ∙ ap (λ (s : ℕ). tallyOf (keep (isInside start s) (slotsOf p start k))) (g .ends) ∙ ap (λ (n : ℕ). tallyOf (keep (isInside start (start + 2 * count)) (slotsOf p start n))) z
 
--- what is listed is sound
-module _ (lim : ℕ) (p : List ℕ) where
-  unconfirmed-sound : (f : Found) → f ≡ scannedDirectory lim p → (lenient counted : Bool) (before : WarningKind) → SoundIn p (unconfirmedOf f lenient counted before .listed)
-  unconfirmed-sound (scan.Directory d) e true counted before = scanned-sound lim p d (sym e)
-  unconfirmed-sound (scan.Directory d) e false counted before = tt
-  unconfirmed-sound scan.Nothing e true true before = tt
-  unconfirmed-sound scan.Nothing e true false before = tt
-  unconfirmed-sound scan.Nothing e false true before = tt
-  unconfirmed-sound scan.Nothing e false false before = tt
+-- what holds of each directory that the search finds holds of what is listed
+module _ (lim : ℕ) (p : List ℕ) (P : ℕ → ℕ → Type 0) (scanned : (d : Scan) → scannedDirectory lim p ≡ scan.Directory d → P (d .start) (d .slots)) where
+  unconfirmed-holds : (f : Found) → f ≡ scannedDirectory lim p → (lenient counted : Bool) (before : WarningKind) → ListedAs P (unconfirmedOf f lenient counted before .listed)
+  unconfirmed-holds (scan.Directory d) e true counted before = scanned d (sym e)
+  unconfirmed-holds (scan.Directory d) e false counted before = tt
+  unconfirmed-holds scan.Nothing e true true before = tt
+  unconfirmed-holds scan.Nothing e true false before = tt
+  unconfirmed-holds scan.Nothing e false true before = tt
+  unconfirmed-holds scan.Nothing e false false before = tt
 
-  module _ (n : ℕ) where
-    few-sound : (q : Prelude) → q ≡ preludeOf lim p n → (lenient : Bool) → SoundIn p (fewOf q n lenient .listed)
-    few-sound prelude.Missing e true = tt
-    few-sound prelude.Missing e false = tt
-    few-sound (prelude.Truncated found stop) e true = tt
-    few-sound (prelude.Truncated found stop) e false = tt
-    few-sound (prelude.One s) e true = prelude-sound lim p n s (sym e)
-    few-sound (prelude.One s) e false = tt
-    few-sound prelude.Several e true = tt
-    few-sound prelude.Several e false = tt
+  module _ (n : ℕ) (declared : (s : ℕ) → preludeOf lim p n ≡ prelude.One s → P s n) where
+    few-holds : (q : Prelude) → q ≡ preludeOf lim p n → (lenient : Bool) → ListedAs P (fewOf q n lenient .listed)
+    few-holds prelude.Missing e true = tt
+    few-holds prelude.Missing e false = tt
+    few-holds (prelude.Truncated found stop) e true = tt
+    few-holds (prelude.Truncated found stop) e false = tt
+    few-holds (prelude.One s) e true = declared s (sym e)
+    few-holds (prelude.One s) e false = tt
+    few-holds prelude.Several e true = tt
+    few-holds prelude.Several e false = tt
 
-    many-sound : (q : Prelude) → q ≡ preludeOf lim p n → (lenient : Bool) → SoundIn p (manyOf q n (scannedDirectory lim p) lenient .listed)
-    many-sound prelude.Missing e lenient = unconfirmed-sound (scannedDirectory lim p) refl lenient true warning.Nothing
-    many-sound (prelude.Truncated found stop) e true = unconfirmed-sound (scannedDirectory lim p) refl true true (warning.SlotDirectoryTruncated found n)
-    many-sound (prelude.Truncated found stop) e false = tt
-    many-sound (prelude.One s) e lenient = prelude-sound lim p n s (sym e)
-    many-sound prelude.Several e true = unconfirmed-sound (scannedDirectory lim p) refl true true warning.AmbiguousSlotDirectory
-    many-sound prelude.Several e false = tt
+    many-holds : (q : Prelude) → q ≡ preludeOf lim p n → (lenient : Bool) → ListedAs P (manyOf q n (scannedDirectory lim p) lenient .listed)
+    many-holds prelude.Missing e lenient = unconfirmed-holds (scannedDirectory lim p) refl lenient true warning.Nothing
+    many-holds (prelude.Truncated found stop) e true = unconfirmed-holds (scannedDirectory lim p) refl true true (warning.SlotDirectoryTruncated found n)
+    many-holds (prelude.Truncated found stop) e false = tt
+    many-holds (prelude.One s) e lenient = declared s (sym e)
+    many-holds prelude.Several e true = unconfirmed-holds (scannedDirectory lim p) refl true true warning.AmbiguousSlotDirectory
+    many-holds prelude.Several e false = tt
 
-    pub found-sound : (lenient : Bool) → SoundIn p (foundOf lim p n lenient .listed)
+    pub found-holds : (lenient : Bool) → ListedAs P (foundOf lim p n lenient .listed)
     unfolding foundOf
-    found-sound lenient = go (eqb n 0) (ltb n 4)
+    found-holds lenient = go (eqb n 0) (ltb n 4)
       where
-        go : (b c : Bool) → SoundIn p (pick b (unconfirmedOf (scannedDirectory lim p) lenient false warning.Nothing) (pick c (fewOf (preludeOf lim p n) n lenient) (manyOf (preludeOf lim p n) n (scannedDirectory lim p) lenient)) .listed)
-        go true c = unconfirmed-sound (scannedDirectory lim p) refl lenient false warning.Nothing
-        go false true = few-sound (preludeOf lim p n) refl lenient
-        go false false = many-sound (preludeOf lim p n) refl lenient
+        go : (b c : Bool) → ListedAs P (pick b (unconfirmedOf (scannedDirectory lim p) lenient false warning.Nothing) (pick c (fewOf (preludeOf lim p n) n lenient) (manyOf (preludeOf lim p n) n (scannedDirectory lim p) lenient)) .listed)
+        go true c = unconfirmed-holds (scannedDirectory lim p) refl lenient false warning.Nothing
+        go false true = few-holds (preludeOf lim p n) refl lenient
+        go false false = many-holds (preludeOf lim p n) refl lenient
 
-  checked-sound : (lenient : Bool) (d : Decided) (l : Listed) → d .listed ≡ l → SoundIn p (d .listed) → SoundIn p (checkedIn p lenient d l .listed)
+  checked-holds : (lenient : Bool) (d : Decided) (l : Listed) → d .listed ≡ l → ListedAs P (d .listed) → ListedAs P (checkedIn p lenient d l .listed)
   unfolding checkedAt
-  checked-sound lenient d listed.Nothing e s = s
-  checked-sound lenient d (listed.Declared start count) e s = go lenient (insideOf p start count)
+  checked-holds lenient d listed.Nothing e s = s
+  checked-holds lenient d (listed.Declared start count) e s = go lenient (insideOf p start count)
     where
-      go : (b : Bool) (l : List ℕ) → SoundIn p (checkedBy b d (start + 2 * count) l .listed)
+      go : (b : Bool) (l : List ℕ) → ListedAs P (checkedBy b d (start + 2 * count) l .listed)
       go b [] = s
       go true (v ∷ l) = s
       go false (v ∷ l) = tt
-  checked-sound lenient d (listed.Scanned start count) e s = go lenient (insideOf p start count)
+  checked-holds lenient d (listed.Scanned start count) e s = go lenient (insideOf p start count)
     where
-      go : (b : Bool) (l : List ℕ) → SoundIn p (checkedBy b d (start + 2 * count) l .listed)
+      go : (b : Bool) (l : List ℕ) → ListedAs P (checkedBy b d (start + 2 * count) l .listed)
       go b [] = s
       go true (v ∷ l) = s
       go false (v ∷ l) = tt
 
-  pub decided-sound : (lenient : Bool) → SoundIn p (decisionOf lim p lenient .listed)
+  pub decided-holds : ((s : ℕ) → preludeOf lim p (byteAt p 0xFF0) ≡ prelude.One s → P s (byteAt p 0xFF0)) → (lenient : Bool) → ListedAs P (decisionOf lim p lenient .listed)
   unfolding decisionOf
-  decided-sound lenient = go (eqb (length p) 4096)
+  decided-holds declared lenient = go (eqb (length p) 4096)
     where
       d : Decided
       d = foundOf lim p (byteAt p 0xFF0) lenient
 
-      go : (b : Bool) → SoundIn p (pick b (checkedOf p lenient d) (refusal (WrongLength (length p))) .listed)
-      go true = checked-sound lenient d (d .listed) refl (found-sound (byteAt p 0xFF0) lenient)
+      go : (b : Bool) → ListedAs P (pick b (checkedOf p lenient d) (refusal (WrongLength (length p))) .listed)
+      go true = checked-holds lenient d (d .listed) refl (found-holds (byteAt p 0xFF0) declared lenient)
       go false = tt
+
+-- what is listed is sound
+pub found-sound : (lim : ℕ) (p : List ℕ) (n : ℕ) (lenient : Bool) → SoundIn p (foundOf lim p n lenient .listed)
+found-sound lim p n lenient = found-holds lim p (Sound p) (scanned-sound lim p) n (prelude-sound lim p n) lenient
+
+pub decided-sound : (lim : ℕ) (p : List ℕ) (lenient : Bool) → SoundIn p (decisionOf lim p lenient .listed)
+decided-sound lim p lenient = decided-holds lim p (Sound p) (scanned-sound lim p) (prelude-sound lim p (byteAt p 0xFF0)) lenient
 
 -- by how it was found
 module _ (p : List ℕ) (l : Listed) (start count : ℕ) (s : SoundIn p l) where

@@ -69,7 +69,7 @@ module _ (p : List ℕ) (start stop : ℕ) where
   slotAt k = pairAt p (start + 2 * k)
 
   -- the kept offsets of the first k slots, from the last of them to the first
-  pub fromEnd : ℕ → List ℕ
+  unfoldable pub fromEnd : ℕ → List ℕ
   fromEnd zero = []
   fromEnd (suc k) = pick (isKept start stop (slotAt k)) (slotAt k ∷ fromEnd k) (fromEnd k)
 
@@ -97,10 +97,10 @@ module _ (p : List ℕ) (start stop : ℕ) where
         one zero h = absurd (not-suc-le-zero h)
         one (suc k) h = let z : suc k - 1 ≡ k = omega arith in rw z (unfold fromEnd in refl)
 
-    end-kept : isKept start stop v ≡ true → fromEnd k ≡ v ∷ fromEnd (k - 1)
+    pub end-kept : isKept start stop v ≡ true → fromEnd k ≡ v ∷ fromEnd (k - 1)
     end-kept q = end-step ∙ rw q refl
 
-    end-not : isKept start stop v ≡ false → fromEnd k ≡ fromEnd (k - 1)
+    pub end-not : isKept start stop v ≡ false → fromEnd k ≡ fromEnd (k - 1)
     end-not q = end-step ∙ rw q refl
 
 -- the rows of a sound directory

@@ -4,4 +4,5 @@ pub mod Listing
 pub mod Deciding
 pub mod Tables
 pub mod Asking
+pub mod Starting
 pub mod Meaning

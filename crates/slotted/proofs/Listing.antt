@@ -202,6 +202,17 @@ scanned-sound lim p d q = go (leb (length p) lim) refl
     go true h = at (length p) (omega arith) (scanned-past lim p (leb-true (length p) lim h) ∙ q)
     go false h = let l : lim < length p = leb-false (length p) lim h in at lim (omega arith) q
 
+-- and it has no more slots than pairs below the limit
+scan-few : (lim : ℕ) (p : List ℕ) (s : ℕ) (d : Scan) → d ≡ scanFrom lim p s → 2 * d .slots ≤ lim
+unfolding scanFrom
+scan-few lim p s d e =
+    let l : List ℕ = slotsAt lim p (arrayStart lim p s) in
+    let v : d .slots ≡ length (trim l) = ap (λ (x : Scan). x .slots) e in
+    omega (arith, trim-few l, slots-few lim p (arrayStart lim p s))
+
+pub scanned-few : (lim : ℕ) (p : List ℕ) (d : Scan) → scannedDirectory lim p ≡ scan.Directory d → 2 * d .slots ≤ lim
+scanned-few lim p d q = let b = scanned-best lim p d q in scan-few lim p (b .0 .from) d (b .0 .is-scan)
+
 -- the one prelude
 filled : (p : List ℕ) (n s : ℕ) → whole n (runOf (declaredSlots p n s)) ≡ true → Sound p s n
 unfolding whole declaredSlots

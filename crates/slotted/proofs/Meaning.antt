@@ -1,29 +1,38 @@
--- What the parse and the rows come to: at most three warnings; rows that follow one another without a gap up to 0xFF0; and a directory that
--- fits its table; the numbers of the answers. Assumes nothing.
-use Prim.Native.Nat.{ℕ, zero, suc, _+_, _-_, _≤_, _<_}
-use mathlib.Core.Path.{_≡_, refl}
+-- What the parse and the rows come to: at most three warnings; rows that follow one another without a gap up to 0xFF0; and a directory and
+-- rows that fit their tables; the numbers of the answers. Assumes nothing.
+use Prim.Native.Nat.{ℕ, zero, suc, _+_, _-_, _*_, _≤_, _<_}
+use mathlib.Core.Path.{_≡_, refl, ap}
 use mathlib.Core.List.{List, [], _∷_}
 use mathlib.Core.Bool.{Bool, true, false}
 use native.Mathlib.Omega.{arith}
 use lib.Dec.{eqb, leb}
 use lib.ListN.{length, set}
+use lib.Seq.{take-all}
 use Rattle.lists.specs.Cases.{pick}
+use Rattle.lists.specs.Bytes.{byteAt, pairAt}
 use Rattle.lists.specs.Counts.{isIn}
+use Rattle.lists.proofs.Each.{each-length}
+use Rattle.lists.proofs.Keep.{keep-le}
 use Rattle.lists.proofs.Picks.{pick-case}
 use Rattle.answers.specs.Answers.{numberOf, isAccepted}
 use Rattle.answers.specs.declared.kinds.Answer.{Answer}
 use Rattle.answers.specs.Warns.{warningNumber, noParseWarnings, withParseWarning}
 use Rattle.answers.specs.declared.notices.WarningKind.{WarningKind}
 use Rattle.answers.specs.declared.notices.ParseWarnings.{ParseWarnings}
-use Rattle.slotted.specs.Rows.{rowIn}
-use Rattle.slotted.specs.Decisions.{answerOf, decisionOf}
-use Rattle.slotted.specs.Parses.{warned, parsedOf}
-use Rattle.slotted.specs.RowAnswers.{rowsIn, rowsOf, rowOf, spanAnswer, rowAnswerOf}
+use Rattle.slotted.specs.Rows.{slotsOf, isKept, rowsAt, rowIn}
+use Rattle.slotted.specs.Decisions.{answerOf, decisionOf, ListedAs}
+use Rattle.slotted.specs.Parses.{tableOf, directoryOf, warned, parsedOf}
+use Rattle.slotted.specs.RowAnswers.{rowsIn, rowsOf, rowOf, spanAnswer, rowAnswerOf, startsOf}
 use Rattle.slotted.specs.declared.verdicts.Verdict.{Verdict}
 use Rattle.slotted.specs.declared.verdicts.Verdict.the-variants as verdict
+use Rattle.slotted.specs.declared.verdicts.Listed.{Listed}
+use Rattle.slotted.specs.declared.verdicts.Listed.the-variants as listed
 use Rattle.slotted.specs.declared.verdicts.Decided.{Decided}
 use Rattle.slotted.specs.declared.spans.Span.{Span}
 use Rattle.slotted.specs.declared.spans.Span.the-variants.{At, NoRow}
+use Rattle.slotted.proofs.FarEnd.{rows-length}
+use Rattle.slotted.proofs.Listing.{scanned-few}
+use Rattle.slotted.proofs.Deciding.{decided-holds}
 use Rattle.slotted.proofs.Asking.{no-rows, row-fits}
 
 one-more : (t : ParseWarnings) (page : ℕ) (kind : WarningKind) (n : ℕ) → t .len ≤ n → warned t page kind .len ≤ n + 1
@@ -70,6 +79,42 @@ unfolding rowIn
 row-there r [] = ((λ h q. omega arith), λ h. no-rows r)
 row-there zero (x ∷ l) = ((λ h q. let z : _≡_ {A = ℕ} 0 1 = cc in omega arith), λ h. absurd (omega arith))
 row-there (suc r) (x ∷ l) = let i = row-there r l in ((λ h q. i .0 (omega arith) q), λ h. i .1 (omega arith))
+
+-- ---- the tables
+
+-- at most 384 slots are listed of a page of bytes: a prelude declares at most 255, and 384 pairs stand below 0x300
+listed-few : (p : List ℕ) (lenient : Bool) → byteAt p 0xFF0 < 256 → ListedAs (λ start count. count ≤ 384) (decisionOf 0x300 p lenient .listed)
+listed-few p lenient b = decided-holds 0x300 p (λ start count. count ≤ 384) (λ d e. let h : 2 * d .slots ≤ 0x300 = scanned-few 0x300 p d e in omega arith) (λ s e. omega arith) lenient
+
+-- the directory fits its table
+slots-in : (p : List ℕ) (l : Listed) → ListedAs (λ start count. count ≤ 384) l → directoryOf p l .len ≤ 384
+slots-in p listed.Nothing h = omega arith
+slots-in p (listed.Declared start count) h = h
+slots-in p (listed.Scanned start count) h = h
+
+pub directory-fits : (page : ℕ) (p : List ℕ) (lenient : Bool) → byteAt p 0xFF0 < 256 → parsedOf 0x300 page p lenient .directory .len ≤ 384
+unfolding parsedOf
+directory-fits page p lenient b = slots-in p (decisionOf 0x300 p lenient .listed) (listed-few p lenient b)
+
+-- so do the rows
+rows-at : (p : List ℕ) (start count : ℕ) → count ≤ 384 → length (rowsAt p start count) ≤ 384
+rows-at p start count h =
+    let k = keep-le (isKept start (start + 2 * count)) (slotsOf p start count) in
+    omega (arith, k, rows-length p start count, each-length (λ j. pairAt p (start + 2 * j)) count)
+
+rows-in : (p : List ℕ) (l : Listed) → ListedAs (λ start count. count ≤ 384) l → length (rowsIn p l) ≤ 384
+rows-in p listed.Nothing h = omega arith
+rows-in p (listed.Declared start count) h = rows-at p start count h
+rows-in p (listed.Scanned start count) h = rows-at p start count h
+
+pub rows-fit : (p : List ℕ) (lenient : Bool) → byteAt p 0xFF0 < 256 → length (rowsOf 0x300 p lenient) ≤ 384
+unfolding rowsOf
+rows-fit p lenient b = rows-in p (decisionOf 0x300 p lenient .listed) (listed-few p lenient b)
+
+-- and none is left out
+pub starts-all : (page : ℕ) (p : List ℕ) (lenient : Bool) → byteAt p 0xFF0 < 256 → startsOf 0x300 page p lenient .items ≡ tableOf (rowsOf 0x300 p lenient)
+unfolding startsOf
+starts-all page p lenient b = ap tableOf (take-all 384 (rowsOf 0x300 p lenient) (rows-fit p lenient b))
 
 -- ---- the numbers of the answers
 

@@ -4,7 +4,7 @@ use mathlib.Core.Path.{_≡_, refl, sym, ap, _∙_}
 use mathlib.Core.List.{List, [], _∷_, _++_, append-assoc}
 use mathlib.Core.Bool.{Bool}
 use native.Mathlib.Omega.{arith}
-use lib.ListN.{length, set, replicate}
+use lib.ListN.{length, set, replicate, length-append}
 use lib.Seq.{set-at}
 use borrow.Author.Tests.{eq-eqb, ne-eqb}
 use Rattle.lists.specs.Bytes.{pairAt}
@@ -26,17 +26,19 @@ pub table-none : (p : List ℕ) (start : ℕ) (t : List ℕ) → t ≡ tableOf [
 unfolding each
 table-none p start t e = e
 
+pub table-put : (l t : List ℕ) (k v : ℕ) → length l ≡ k → k < 384 → t ≡ tableOf l → set t k v ≡ tableOf (l ++ (v ∷ []))
+table-put l t k v n h q =
+    let m : 384 - length l ≡ suc (384 - (k + 1)) = omega arith in
+    let n′ : 384 - (k + 1) ≡ 384 - length (l ++ (v ∷ [])) = omega (arith, length-append l (v ∷ [])) in
+    let room : List ℕ = replicate (384 - (k + 1)) 0 in
+    let a : t ≡ l ++ (0 ∷ room) = q ∙ ap (λ (x : ℕ). l ++ replicate x 0) m in
+    ap (λ (x : List ℕ). set x k v) a ∙ set-at l 0 room v k n ∙ sym (append-assoc l (v ∷ []) room)
+    ∙ ap (λ (x : ℕ). (l ++ (v ∷ [])) ++ replicate x 0) n′
+
 pub table-more : (p : List ℕ) (start k v : ℕ) (t : List ℕ) → k < 384 → v ≡ pairAt p (start + 2 * k) → t ≡ tableOf (slotsOf p start k) → set t k v ≡ tableOf (slotsOf p start (k + 1))
 table-more p start k v t h e q =
     let f : ℕ → ℕ = λ j. pairAt p (start + 2 * j) in
-    let n : length (slotsOf p start k) ≡ k = each-length f k in
-    let n′ : length (slotsOf p start (k + 1)) ≡ k + 1 = each-length f (k + 1) in
-    let m : 384 - length (slotsOf p start k) ≡ suc (384 - (k + 1)) = omega arith in
-    let room : List ℕ = replicate (384 - (k + 1)) 0 in
-    let a : t ≡ slotsOf p start k ++ (0 ∷ room) = q ∙ ap (λ (x : ℕ). slotsOf p start k ++ replicate x 0) m in
-    ap (λ (x : List ℕ). set x k v) a ∙ set-at (slotsOf p start k) 0 room v k n ∙ sym (append-assoc (slotsOf p start k) (v ∷ []) room)
-    ∙ ap (λ (x : ℕ). (slotsOf p start k ++ (x ∷ [])) ++ room) e ∙ ap (λ (x : List ℕ). x ++ room) (sym (each-more f k))
-    ∙ ap (λ (x : ℕ). slotsOf p start (k + 1) ++ replicate (384 - x) 0) (sym n′)
+    table-put (slotsOf p start k) t k v (each-length f k) h q ∙ ap (λ (x : ℕ). tableOf (slotsOf p start k ++ (x ∷ []))) e ∙ ap tableOf (sym (each-more f k))
 
 pub table-all : (p : List ℕ) (start k room : ℕ) (t : List ℕ) → k ≤ room → room ≤ k → t ≡ tableOf (slotsOf p start k) → t ≡ tableOf (slotsOf p start room)
 table-all p start k room t h l q = let z : k ≡ room = omega arith in q ∙ ap (λ (x : ℕ). tableOf (slotsOf p start x)) z
@@ -53,6 +55,10 @@ module _ (t : ParseWarnings) (page : ℕ) (kind : WarningKind) where
 
 -- the answer, part by part
 module _ (lim page : ℕ) (p : List ℕ) (lenient : Bool) (d : Decided) (e : d ≡ decisionOf lim p lenient) where
+  pub answer-is : (a : Answer) → a ≡ answerOf page (d .verdict) → a ≡ parsedOf lim page p lenient .answer
+  unfolding parsedOf
+  answer-is a ea = ea ∙ ap (λ (x : Decided). answerOf page (x .verdict)) e
+
   pub parsed-is : (a : Answer) (f : Bool) (s : SlotDirectory) (w : ParseWarnings) → a ≡ answerOf page (d .verdict) → f ≡ isListed (d .listed) → s ≡ directoryOf p (d .listed)
       → w ≡ warningsOf page d
       → record { answer = a; found = f; directory = s; warnings = w } ≡ parsedOf lim page p lenient

@@ -102,8 +102,12 @@ checkedOf p lenient d = checkedIn p lenient d (d .listed)
 unfoldable pub decisionOf : ℕ → List ℕ → Bool → Decided
 decisionOf lim p lenient = pick (eqb (length p) 4096) (checkedOf p lenient (foundOf lim p (byteAt p 0xFF0) lenient)) (refusal (WrongLength (length p)))
 
+-- something holds of the directory that is listed, where there is one
+abbrev pub ListedAs : (ℕ → ℕ → Type 0) → Listed → Type 0
+ListedAs P listed.Nothing = Unit {0}
+ListedAs P (listed.Declared start count) = P start count
+ListedAs P (listed.Scanned start count) = P start count
+
 -- what is listed is a directory
 abbrev pub SoundIn : List ℕ → Listed → Type 0
-SoundIn p listed.Nothing = Unit {0}
-SoundIn p (listed.Declared start count) = Sound p start count
-SoundIn p (listed.Scanned start count) = Sound p start count
+SoundIn p l = ListedAs (Sound p) l

@@ -62,6 +62,15 @@ pub fn parse(page: u64, plain: &[u8], leniency: Leniency) -> Parsed
     }
 }
 
+// What the parse answers, with no table built.
+pub fn parse_answer(page: u64, plain: &[u8], leniency: Leniency) -> Answer
+    ensures { λ a. ⌜ a ≡ parsedOf 0x300 page (now (plain .entry)) (hasBit (leniency .bits) 2) .answer ⌝ }
+{
+    let d = decide(plain, SEARCH_LIMIT, leniency.directory());
+    let verdict = d.verdict;
+    verdict.answer(page)
+}
+
 // The table of the warnings that were given. It is long, and most pages give none: it is then made in its place, and not moved.
 fn given(page: u64, first: WarningKind, second: WarningKind, third: WarningKind) -> ParseWarnings
     ensures { λ r. ⌜ r ≡ warned (warned (warned noParseWarnings page first) page second) page third ⌝ }
@@ -145,7 +154,7 @@ fn directory_at(plain: &[u8], start: usize, count: usize, declared: Declared) ->
     }
 }
 
-fn no_slots() -> [u16; 384]
+pub(crate) fn no_slots() -> [u16; 384]
     ensures { λ r. ⌜ r ≡ tableOf [] ⌝ }
 {
     [0u16; 384]
