@@ -74,6 +74,11 @@
  *     40  u16      offset of its first byte in the plain page
  *     42  u16      offset behind its last byte
  *
+ *   Rows (810 bytes)
+ *     0            answer part
+ *     40  u16      how many rows, 0 to 384
+ *     42  384 x u16  offset of each row's first byte, ascending, then zeros: a row ends where the next one starts, the last at 0xFF0
+ *
  *   Trailer (53 bytes)
  *     0            answer part
  *     40  u8       row count
@@ -121,6 +126,7 @@ extern "C" {
 #define LUMEVIQO_PARSE 919
 #define LUMEVIQO_ROW_COUNT 42
 #define LUMEVIQO_ROW 44
+#define LUMEVIQO_ROWS 810
 #define LUMEVIQO_TRAILER 53
 #define LUMEVIQO_SUPERBLOCK 63
 #define LUMEVIQO_INTEGRITY 40
@@ -255,6 +261,10 @@ size_t lumeviqo_row_count(uint64_t number, const uint8_t *plain, size_t plain_le
 /* Where row `row` of a plain page lies; rows ascend by offset, and the first is row 0. Refuses: 1, 8 to 12, 16. Layout Row. */
 size_t lumeviqo_row(uint64_t number, const uint8_t *plain, size_t plain_length, uint8_t leniency, size_t row, uint8_t *answer,
                     size_t answer_length);
+
+/* Where all rows of a plain page lie, in one pass. Refuses: 1, 8 to 12. Layout Rows. */
+size_t lumeviqo_rows(uint64_t number, const uint8_t *plain, size_t plain_length, uint8_t leniency, uint8_t *answer,
+                     size_t answer_length);
 
 #ifdef __cplusplus
 }

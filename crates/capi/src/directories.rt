@@ -1,10 +1,10 @@
-// A parse, a number of rows and a row, written at the front of a buffer that has room for them.
+// A parse, a number of rows, a row and all rows, written at the front of a buffer that has room for them.
 ghost use mathlib.Core.Path.{_≡_};
 ghost use Prim.Native.Nat.{_+_, _≤_};
 ghost use lib.ListN.{length};
 ghost use Rattle.lists.specs.Pieces.{over};
 ghost use Rattle.layout.specs.Parts.{warningsBytes};
-ghost use Rattle.layout.specs.Layouts.{slotsBytes, parseBytes, rowCountBytes, rowBytes};
+ghost use Rattle.layout.specs.Layouts.{slotsBytes, parseBytes, rowCountBytes, rowBytes, rowsBytes};
 use crate::puts::put;
 use crate::puts::put_answer;
 use answers::Answer;
@@ -17,6 +17,7 @@ use layout::span_start;
 use layout::warning_bytes;
 use slotted::Parsed;
 use slotted::Span;
+use slotted::Starts;
 
 pub(crate) fn write_parse(out: &mut [u8], p: Parsed)
     requires { ⌜ 919 ≤ length (now out) ⌝ }
@@ -54,6 +55,18 @@ pub(crate) fn write_row(out: &mut [u8], x: Answer, s: Span)
     put_answer(out, x);
     put(out, 40, &start);
     put(out, 42, &end);
+}
+
+pub(crate) fn write_rows(out: &mut [u8], s: Starts)
+    requires { ⌜ 810 ≤ length (now out) ⌝ }
+    ensures { λ r. ⌜ now (out .exit) ≡ over (now (out .entry)) 0 (rowsBytes s) ⌝ }
+{
+    let x = s.answer;
+    let items = s.items;
+    let count = short_bytes(s.len);
+    put_answer(out, x);
+    put(out, 40, &count);
+    put_slots(out, 42, items);
 }
 
 fn put_slots(out: &mut [u8], at: usize, slots: [u16; 384])

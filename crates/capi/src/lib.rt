@@ -21,5 +21,6 @@ pub use pages::lumeviqo_trailer;
 pub use rows::lumeviqo_parse;
 pub use rows::lumeviqo_row;
 pub use rows::lumeviqo_row_count;
+pub use rows::lumeviqo_rows;
 pub use summaries::lumeviqo_replace;
 pub use summaries::lumeviqo_scan;

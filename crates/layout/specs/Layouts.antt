@@ -24,6 +24,7 @@ use Rattle.slotted.specs.declared.directories.SlotDirectory.{SlotDirectory}
 use Rattle.slotted.specs.declared.directories.Parsed.{Parsed}
 use Rattle.slotted.specs.declared.spans.Span.{Span}
 use Rattle.slotted.specs.declared.spans.Span.the-variants.{At, NoRow}
+use Rattle.slotted.specs.declared.starts.Starts.{Starts}
 use Rattle.answers.specs.declared.kinds.Answer.{Answer}
 use Rattle.layout.specs.Numbers.{bytes2, bytes4}
 use Rattle.layout.specs.Parts.{answerBytes, fitsBytes, groundsBytes, warningsBytes}
@@ -141,3 +142,7 @@ spanEnd NoRow = 0
 
 unfoldable pub rowBytes : Answer → Span → List ℕ
 rowBytes x s = (answerBytes x ++ bytes2 (spanStart s)) ++ bytes2 (spanEnd s)
+
+-- all rows: the answer part, how many rows, where each starts
+unfoldable pub rowsBytes : Starts → List ℕ
+rowsBytes s = (answerBytes (s .answer) ++ bytes2 (s .len)) ++ slotsBytes (s .items)

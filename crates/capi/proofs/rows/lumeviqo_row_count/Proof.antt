@@ -10,10 +10,10 @@ use Rattle.lists.specs.Pieces.{over}
 use Rattle.lists.specs.Bytes.{hasBit}
 use Rattle.capi.specs.Buffers.{hasRoom}
 use Rattle.capi.proofs.Told.{pick-kept, pick-taken, told-kept, told-taken}
+use Rattle.answers.specs.declared.kinds.Answer.{Answer}
 use Rattle.answers.specs.declared.settings.Leniency.{Leniency}
 use Rattle.slotted.specs.Parses.{parsedOf}
 use Rattle.slotted.specs.RowAnswers.{rowsOf}
-use Rattle.slotted.specs.declared.directories.Parsed.{Parsed}
 use Rattle.layout.specs.Layouts.{rowCountBytes}
 use borrow.Author.Needs.{needs}
 use Rattle.capi.proofs.rows.lumeviqo_row_count.Statement.{statement}
@@ -28,8 +28,8 @@ returns c =
 new-requires : tie.Need-new-requires
 new-requires c κs = search needs
 
-parse-requires : tie.Need-parse-requires
-parse-requires c κs = search needs
+parse-answer-requires : tie.Need-parse-answer-requires
+parse-answer-requires c κs = search needs
 
 row-count-requires : tie.Need-row-count-requires
 row-count-requires c κs = search needs
@@ -44,11 +44,11 @@ returns-2 : tie.Need-returns-2
 returns-2 c =
     let a = c .before .before .before .before .before .before .before .before .before .before .args in
     let e : hasRoom 42 (now (a .answer)) ≡ true = le-leb 42 (length (now (a .answer))) (omega (arith, c .before .before .before .before .before .before .before .if1 .left)) in
-    let r : c .before .before .before .before .before .parse .result ≡ parsedOf 0x300 (a .number) (now (a .plain)) (hasBit (a .leniency) 2) =
-    c .before .before .before .before .before .parse .ensures ∙ ap (λ (l : Leniency). parsedOf 0x300 (a .number) (now (a .plain)) (hasBit (l .bits) 2)) (c .before .before .before .before .before .before .new .ensures) in
+    let r : c .before .before .before .before .before .parse-answer .result ≡ parsedOf 0x300 (a .number) (now (a .plain)) (hasBit (a .leniency) 2) .answer =
+    c .before .before .before .before .before .parse-answer .ensures ∙ ap (λ (l : Leniency). parsedOf 0x300 (a .number) (now (a .plain)) (hasBit (l .bits) 2) .answer) (c .before .before .before .before .before .before .new .ensures) in
     let n : c .before .before .before .before .row-count .result ≡ length (rowsOf 0x300 (now (a .plain)) (hasBit (a .leniency) 2)) =
     c .before .before .before .before .row-count .ensures ∙ ap (λ (l : Leniency). length (rowsOf 0x300 (now (a .plain)) (hasBit (l .bits) 2))) (c .before .before .before .before .before .before .new .ensures) in
-    (pick-taken 42 0 _ e refl, told-taken _ (now (a .answer)) _ e (c .before .before .write-row-count .ensures ∙ ap₂ (λ (x : Parsed) (k : ℕ). over (now (a .answer)) 0 (rowCountBytes (x .answer) k)) r n))
+    (pick-taken 42 0 _ e refl, told-taken _ (now (a .answer)) _ e (c .before .before .write-row-count .ensures ∙ ap₂ (λ (x : Answer) (k : ℕ). over (now (a .answer)) 0 (rowCountBytes x k)) r n))
 
 pub lumeviqo-row-count-spec : {M : Type 1} → statement M
 lumeviqo-row-count-spec =
@@ -56,7 +56,7 @@ lumeviqo-row-count-spec =
     (tie.spec
     returns
     new-requires
-    parse-requires
+    parse-answer-requires
     row-count-requires
     write-row-count-requires
     same-length
