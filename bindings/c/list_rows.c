@@ -21,22 +21,22 @@ static void print_refusal(uint64_t page, const uint8_t *answer) {
 }
 
 static void list(uint64_t page, const uint8_t *stored, size_t length, uint8_t leniency) {
-    uint8_t plain[LUMEVIQO_PAGE], decoding[LUMEVIQO_DECODING], count[LUMEVIQO_ROW_COUNT], row[LUMEVIQO_ROW];
+    uint8_t plain[LUMEVIQO_PAGE], decoding[LUMEVIQO_DECODING], found[LUMEVIQO_ROWS];
     lumeviqo_decode(page, stored, length, stored, 0, leniency, LUMEVIQO_MIN_TRAILER_COUNT, plain, sizeof plain, decoding, sizeof decoding);
     if (decoding[0] != LUMEVIQO_ACCEPTED) {
         print_refusal(page, decoding);
         return;
     }
-    lumeviqo_row_count(page, plain, sizeof plain, leniency, count, sizeof count);
-    if (count[0] != LUMEVIQO_ACCEPTED) {
-        print_refusal(page, count);
+    lumeviqo_rows(page, plain, sizeof plain, leniency, found, sizeof found);
+    if (found[0] != LUMEVIQO_ACCEPTED) {
+        print_refusal(page, found);
         return;
     }
-    size_t rows = number_at(count, 40, 2);
+    size_t rows = number_at(found, 40, 2);
     printf("%" PRIu64 ": confidence %u, %zu rows, %u warnings\n", page, decoding[51], rows, decoding[121]);
     for (size_t r = 0; r < rows; r++) {
-        lumeviqo_row(page, plain, sizeof plain, leniency, r, row, sizeof row);
-        printf("  %04" PRIx64 " to %04" PRIx64 "\n", number_at(row, 40, 2), number_at(row, 42, 2));
+        uint64_t end = r + 1 < rows ? number_at(found, 44 + 2 * r, 2) : LUMEVIQO_SHIFTED;
+        printf("  %04" PRIx64 " to %04" PRIx64 "\n", number_at(found, 42 + 2 * r, 2), end);
     }
 }
 

@@ -28,7 +28,7 @@ typedef struct {
 } Function;
 
 enum { CRC32, TRAILER, INTEGRITY, SUPERBLOCK, CHECKED, SCAN, REPLACE, DECODE, SUMMARY, SUPPLIED, SUPPLIED_SUMMARY, PARSE, COUNT, ROW,
-       FUNCTIONS };
+       ROWS, FUNCTIONS };
 
 #define DECODING_REFUSALS 0xFE
 #define SUPPLIED_REFUSALS 0xC6
@@ -52,6 +52,7 @@ static const Function functions[FUNCTIONS] = {
     {"parse", LUMEVIQO_PARSE, OF(PAGE) | OF(ANSWER), OF(ANSWER), PARSE_REFUSALS},
     {"row_count", LUMEVIQO_ROW_COUNT, OF(PAGE) | OF(ANSWER), OF(ANSWER), PARSE_REFUSALS},
     {"row", LUMEVIQO_ROW, OF(PAGE) | OF(ANSWER), OF(ANSWER), 0x10000 | PARSE_REFUSALS},
+    {"rows", LUMEVIQO_ROWS, OF(PAGE) | OF(ANSWER), OF(ANSWER), PARSE_REFUSALS},
 };
 
 static const char *const roles[ROLES] = {"page", "fits", "shifted", "anchors", "bytes", "out", "answer"};
@@ -257,7 +258,8 @@ static size_t ask(uint8_t *const at[ROLES]) {
                                                 n[OUT], answer, n[ANSWER]);
     case PARSE: return lumeviqo_parse(c->number, page, n[PAGE], c->leniency, answer, n[ANSWER]);
     case COUNT: return lumeviqo_row_count(c->number, page, n[PAGE], c->leniency, answer, n[ANSWER]);
-    default: return lumeviqo_row(c->number, page, n[PAGE], c->leniency, c->row, answer, n[ANSWER]);
+    case ROW: return lumeviqo_row(c->number, page, n[PAGE], c->leniency, c->row, answer, n[ANSWER]);
+    default: return lumeviqo_rows(c->number, page, n[PAGE], c->leniency, answer, n[ANSWER]);
     }
 }
 
@@ -422,6 +424,20 @@ static void check_rows(const uint8_t *a) {
     must(rows == 0 || next == DATA, "the last row ends with the data");
 }
 
+/* The rows are as many as row_count says, and those of row: each ends where the next one starts. */
+static void check_starts(const uint8_t *a) {
+    size_t rows = number_at(a + 40, 2);
+    uint8_t count[LUMEVIQO_ROW_COUNT], row[LUMEVIQO_ROW];
+    lumeviqo_row_count(call.number, call.held[PAGE], LUMEVIQO_PAGE, call.leniency, count, sizeof count);
+    must(rows <= 384 && rows == number_at(count + 40, 2), "there are as many rows as row_count says");
+    must(all_are(a + 42 + 2 * rows, 768 - 2 * rows, 0), "unused places for rows are zero");
+    for (size_t r = 0; r < rows; r++) {
+        lumeviqo_row(call.number, call.held[PAGE], LUMEVIQO_PAGE, call.leniency, r, row, sizeof row);
+        size_t end = r + 1 < rows ? number_at(a + 44 + 2 * r, 2) : DATA;
+        must(number_at(a + 42 + 2 * r, 2) == number_at(row + 40, 2) && end == number_at(row + 42, 2), "each row is that of lumeviqo_row");
+    }
+}
+
 static void check_row(const uint8_t *a) {
     uint64_t start = number_at(a + 40, 2), end = number_at(a + 42, 2);
     must(0x20 <= start && start < end && end <= DATA, "a row is in the data");
@@ -453,6 +469,7 @@ static void check_accepted(const Outcome *o) {
     case PARSE: check_parse(a); break;
     case COUNT: check_rows(a); break;
     case ROW: check_row(a); break;
+    case ROWS: check_starts(a); break;
     default: check_decoding(o);
     }
 }
@@ -644,7 +661,7 @@ static size_t right_length(int role) {
 
 /* The call of a function with the subject's own page and summary, and all lengths right. */
 static void right_call(int function) {
-    bool plain = function == PARSE || function == COUNT || function == ROW;
+    bool plain = function >= PARSE;
     call = (Call){.function = function, .number = subject.number, .t = LUMEVIQO_MIN_TRAILER_COUNT, .bv = subject.bv, .own_summary = true};
     for (int role = 0; role < ROLES; role++)
         call.length[role] = right_length(role);

@@ -4,6 +4,9 @@ use crate::answers::{
     Trailer, Warning, WarningKind,
 };
 
+/// Where the data of a page ends, and so its last row.
+const DATA_END: u16 = 0xFF0;
+
 /// Bytes of an answer, read from the front.
 struct Reader<'a> {
     bytes: &'a [u8],
@@ -200,6 +203,14 @@ pub fn row(bytes: &[u8]) -> Result<(u16, u16), Refusal> {
     let mut r = Reader { bytes };
     r.answer()?;
     Ok((r.u16(), r.u16()))
+}
+
+/// Where each row starts, and behind them where the last one ends.
+pub fn row_bounds(bytes: &[u8]) -> Result<Vec<u16>, Refusal> {
+    let mut r = Reader { bytes };
+    r.answer()?;
+    let count = r.u16();
+    Ok((0..count).map(|_| r.u16()).chain([DATA_END]).collect())
 }
 
 pub fn trailer(bytes: &[u8]) -> Result<Trailer, Refusal> {

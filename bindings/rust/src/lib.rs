@@ -241,12 +241,17 @@ pub fn row_count(number: u64, plain: &[u8], leniency: Leniency) -> Result<usize,
 pub fn row(number: u64, plain: &[u8], leniency: Leniency, row: usize) -> Result<Row<'_>, Refusal> {
     let answer = asked::<{ sys::ROW }>(|a, n| unsafe { sys::lumeviqo_row(number, plain.as_ptr(), plain.len(), leniency.0, row, a, n) });
     let (offset, end) = layout::row(&answer)?;
-    Ok(Row { offset, bytes: &plain[offset as usize..end as usize] })
+    Ok(row_from(plain, offset, end))
 }
 
-/// All rows of a plain page.
+/// All rows of a plain page, found in one pass.
 pub fn rows(number: u64, plain: &[u8], leniency: Leniency) -> Result<Vec<Row<'_>>, Refusal> {
-    (0..row_count(number, plain, leniency)?).map(|r| row(number, plain, leniency, r)).collect()
+    let answer = asked::<{ sys::ROWS }>(|a, n| unsafe { sys::lumeviqo_rows(number, plain.as_ptr(), plain.len(), leniency.0, a, n) });
+    Ok(layout::row_bounds(&answer)?.windows(2).map(|w| row_from(plain, w[0], w[1])).collect())
+}
+
+fn row_from(plain: &[u8], offset: u16, end: u16) -> Row<'_> {
+    Row { offset, bytes: &plain[offset as usize..end as usize] }
 }
 
 /// The answer of a function that writes N bytes of it.

@@ -5,6 +5,7 @@ pub const SCAN: usize = 88;
 pub const PARSE: usize = 919;
 pub const ROW_COUNT: usize = 42;
 pub const ROW: usize = 44;
+pub const ROWS: usize = 810;
 pub const TRAILER: usize = 53;
 pub const SUPERBLOCK: usize = 63;
 pub const INTEGRITY: usize = 40;
@@ -128,4 +129,6 @@ unsafe extern "C" {
         answer: *mut u8,
         answer_length: usize,
     ) -> usize;
+
+    pub fn lumeviqo_rows(number: u64, plain: *const u8, plain_length: usize, leniency: u8, answer: *mut u8, answer_length: usize) -> usize;
 }

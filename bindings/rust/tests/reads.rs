@@ -69,6 +69,19 @@ fn rows_of_a_directory() {
 }
 
 #[test]
+fn all_rows_are_those_asked_for_one_by_one() {
+    let mut plain = slotted();
+    plain[0x4C..0x4E].copy_from_slice(&[0x46, 0]); // the last slot points into the directory
+    for leniency in [Leniency::STRICT, Leniency::DIRECTORY] {
+        let one_by_one = row_count(3, &plain, leniency).and_then(|n| (0..n).map(|r| row(3, &plain, leniency, r)).collect());
+        assert_eq!(rows(3, &plain, leniency), one_by_one);
+    }
+    assert_eq!(rows(3, &plain, Leniency::STRICT).unwrap_err(), Refusal::SlotOffsetInDirectory { page: 3, offset: 0x46, end: 0x4E });
+    assert_eq!(rows(3, &plain, Leniency::DIRECTORY).unwrap().len(), 3);
+    assert_eq!(rows(3, &[0; PAGE], Leniency::STRICT).unwrap(), []);
+}
+
+#[test]
 fn a_replaced_sector_is_read_as_the_whole_page() {
     let mut page = zero_data();
     let mut shifted = [0; SHIFTED];

@@ -182,6 +182,8 @@ fn rows(case: &Case, plain: &[u8], tally: &mut Tally) -> Checked {
         let answer = match (parsed, rows) {
             (Ok(p), Ok(rows)) => {
                 let beyond = rows.len();
+                let one_by_one = (0..beyond).map(|r| lumeviqo::row(case.number, plain, leniency, r)).collect();
+                same(tally, "rows one by one", one_by_one, Ok(rows.clone()))?;
                 let none = Refusal { number: 16, values: vec![beyond as u64], candidates: Vec::new() };
                 tally.answer(Some(&none));
                 let row = lumeviqo::row(case.number, plain, leniency, beyond).map(|r| r.offset).map_err(told::refusal);
