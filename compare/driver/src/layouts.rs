@@ -145,3 +145,11 @@ pub fn row(answer: &Result<Parsed, Refusal>, row: usize) -> Vec<u8> {
         Err(_) => l.up_to(44),
     }
 }
+
+pub fn rows(answer: &Result<Parsed, Refusal>) -> Vec<u8> {
+    let l = answered(answer);
+    let Ok(p) = answer else {
+        return l.up_to(810);
+    };
+    p.rows.iter().fold(l.u16(p.rows.len() as u16), |l, r| l.u16(r.offset)).up_to(810)
+}

@@ -134,7 +134,8 @@ fn answer(asked: u8, q: Question, page: &mut [u8], anchors: &[u8], bytes: &[u8])
         10 => parse(q, page),
         11 => row_count(q, page),
         12 => row(q, page),
-        13 => too_many(q.number),
+        13 => rows(q, page),
+        14 => too_many(q.number),
         _ => text(b"?"),
     }
 }
@@ -259,6 +260,12 @@ fn row(q: Question, plain: &[u8]) {
     hex(&answer);
 }
 
+fn rows(q: Question, plain: &[u8]) {
+    let mut answer = rows_room();
+    capi::lumeviqo_rows(q.number, plain, q.leniency, &mut answer);
+    hex(&answer);
+}
+
 // No page has more than eight candidates: what that answer would look like.
 fn too_many(number: u64) {
     let answer = layout::answer_bytes(Answer::TooManyCandidates(number));
@@ -276,6 +283,12 @@ fn decoding_room() -> [u8; 452]
     ensures { λ r. ⌜ 452 ≡ length r ⌝ }
 {
     [0; 452]
+}
+
+fn rows_room() -> [u8; 810]
+    ensures { λ r. ⌜ 810 ≡ length r ⌝ }
+{
+    [0; 810]
 }
 
 fn parse_room() -> [u8; 919]

@@ -25,6 +25,7 @@ enum Asked {
     Parse,
     RowCount,
     Row,
+    Rows,
     TooMany,
 }
 
@@ -239,6 +240,8 @@ fn rows(case: &Case, plain: &[u8], frozen: &mut Frozen) {
     let count = parsed.as_ref().map_or(0, |p| p.rows.len());
     let shows = vec![number(&parsed)];
     frozen.take(about(Asked::RowCount, case, plain), Expected { line: hex(&layouts::row_count(&parsed)), shows });
+    let expected = Expected { line: hex(&layouts::rows(&parsed)), shows: vec![number(&parsed)] };
+    frozen.take(about(Asked::Rows, case, plain), expected);
     for row in [0, count / 2, count.saturating_sub(1), count] {
         let shows = vec![format!("{} last {} beyond {}", number(&parsed), row + 1 == count, row >= count)];
         let asked = about(Asked::Row, case, plain);
