@@ -29,11 +29,7 @@ module _ (o k : ℕ) where
   shift-at (x ∷ l) j zero h = ap (λ (n : ℕ). shiftedOf x o n k) (sym (add-zero j))
   shift-at (x ∷ l) j (suc i) h = shift-at l (suc j) i (le-of-suc-le-suc h) ∙ ap (λ (n : ℕ). shiftedOf (getD l i 0) o n k) (suc-add j i ∙ sym (add-suc j i))
 
-  -- none, one byte more, and all
-  pub shift-none : (l : List ℕ) → shiftedList o k (take 0 l) ≡ []
-  unfolding shiftFrom
-  shift-none l = refl
-
+  -- one byte more, and all
   pub shift-more : (l : List ℕ) (i : ℕ) → i < length l → shiftedList o k (take (i + 1) l) ≡ shiftedList o k (take i l) ++ (shiftedOf (getD l i 0) o i k ∷ [])
   unfolding shiftFrom
   shift-more l i h =
@@ -44,10 +40,6 @@ module _ (o k : ℕ) where
 
   pub shift-all : (l : List ℕ) (i : ℕ) → i ≡ length l → shiftedList o k (take i l) ≡ shiftedList o k l
   shift-all l i e = ap (λ (n : ℕ). shiftedList o k (take n l)) e ∙ ap (shiftedList o k) (take-length l)
-
-  -- the first i bytes give i shifted bytes
-  pub shift-taken : (l : List ℕ) (i : ℕ) → i ≤ length l → length (shiftedList o k (take i l)) ≡ i
-  shift-taken l i h = shift-length 0 (take i l) ∙ length-take-le i l h
 
 -- a sector has as many shifted bytes as bytes, each shifted by its place and the step of the fit
 module _ (o : ℕ) (l : List ℕ) where

@@ -1,6 +1,6 @@
-// The scan of a sector: a histogram for each of the 256 steps.
+// The scan of a sector: a histogram for each of the 256 steps. A step's bytes are shifted first, many at a time, and counted after.
 ghost use mathlib.Core.Path.{_≡_};
-ghost use Prim.Native.Nat.{ℕ, _≤_};
+ghost use Prim.Native.Nat.{ℕ, _<_, _≤_};
 ghost use lib.ListN.{length, getD};
 ghost use Rattle.lists.specs.Counts.{greatest, Tallies};
 ghost use Rattle.sector.specs.Fit.{shiftedList, modalAt, fitOf};
@@ -18,7 +18,7 @@ pub fn scan_sector(stored: &[u8], offset: u8, out: &mut [u8]) -> Fit
     if out.len() != stored.len() {
         return blank_fit();
     }
-    let fit = fit_of(stored, offset);
+    let fit = fit_of(stored, offset, out);
     let step = fit.step;
     write_shifted(stored, offset, step, out);
     fit
@@ -35,8 +35,9 @@ fn blank_fit() -> Fit
     }
 }
 
-fn fit_of(stored: &[u8], offset: u8) -> Fit
-    requires { ⌜ length (now stored) ≤ 512 ⌝ }
+// `room` takes the shifted bytes of one step after the other.
+fn fit_of(stored: &[u8], offset: u8, room: &mut [u8]) -> Fit
+    requires { ⌜ (length (now stored) ≤ 512) × (length (now room) ≡ length (now stored)) ⌝ }
     ensures { λ r. ⌜ r ≡ fitOf offset (now (stored .entry)) ⌝ }
 {
     let mut best_step: u8 = 0;
@@ -45,7 +46,7 @@ fn fit_of(stored: &[u8], offset: u8) -> Fit
     let mut step: u16 = 0;
     while step < 256 {
         let k = step as u8;
-        let peak = modal_count(stored, offset, k);
+        let peak = modal_count(stored, offset, k, room);
         if peak > best {
             runner_up = best;
             best = peak;
@@ -64,25 +65,32 @@ fn fit_of(stored: &[u8], offset: u8) -> Fit
 }
 
 // Counted first and compared after: the two loops are faster than one that keeps the greatest count.
-fn modal_count(stored: &[u8], offset: u8, step: u8) -> u16
-    requires { ⌜ length (now stored) ≤ 512 ⌝ }
+fn modal_count(stored: &[u8], offset: u8, step: u8, room: &mut [u8]) -> u16
+    requires { ⌜ (length (now stored) ≤ 512) × (length (now room) ≡ length (now stored)) ⌝ }
     ensures { λ r. ⌜ r ≡ modalAt offset (now (stored .entry)) step ⌝ }
 {
-    largest(histogram(stored, offset, step))
+    write_shifted(stored, offset, step, room);
+    largest(histogram(room))
 }
 
-fn histogram(stored: &[u8], offset: u8, step: u8) -> [u16; 256]
-    requires { ⌜ length (now stored) ≤ 512 ⌝ }
-    ensures { λ r. ⌜ Tallies 256 r (shiftedList offset step (now (stored .entry))) ⌝ }
+fn histogram(bytes: &[u8]) -> [u16; 256]
+    requires { ⌜ length (now bytes) ≤ 512 ⌝ }
+    ensures { λ r. ⌜ Tallies 256 r (now (bytes .entry)) ⌝ }
 {
     let mut hist = [0u16; 256];
     let mut i: usize = 0;
-    while i < stored.len() {
-        let v = shifted(stored[i], offset, i, step) as usize;
+    while i < bytes.len() {
+        let v = wide(bytes[i]);
         hist[v] = hist[v] + 1;
         i += 1;
     }
     hist
+}
+
+fn wide(b: u8) -> usize
+    ensures { λ r. ⌜ (r ≡ b) × (r < 256) ⌝ }
+{
+    b as usize
 }
 
 fn largest(hist: [u16; 256]) -> u16

@@ -1,10 +1,11 @@
 -- `fit_of` meets its contract: after each step, what leads and what comes second.
 use borrow.Author.Needs.{needs}
 use Prim.Native.Nat.{ℕ, _+_, _-_, _≤_, _<_}
-use mathlib.Core.Path.{_≡_, refl, _∙_, subst}
+use mathlib.Core.Path.{_≡_, refl, sym, _∙_, subst}
 use mathlib.Core.Logic.{⊎-elim}
 use native.Mathlib.Omega.{arith}
 use denote.Ref.{now}
+use lib.ListN.{length}
 use Rattle.sector.specs.Fit.{modalAt}
 use Rattle.sector.proofs.Leads.{Leads, leads-none, leads-up, leads-stay, leads-as}
 use Rattle.sector.proofs.Found.{leads-fit}
@@ -12,14 +13,16 @@ use Rattle.sector.proofs.scan.fit_of.Statement.{statement}
 use Rattle.sector.proofs.scan.fit_of.Tie as tie
 
 abbrev Inv-loop : tie.InvT-loop
-Inv-loop stored offset best-step₀ best₀ runner-up₀ step₀ best-step best runner-up step =
-    (step ≤ 256) × (best < 65536) × Leads (modalAt offset stored) step best-step best runner-up
+Inv-loop stored offset room₀ best-step₀ best₀ runner-up₀ step₀ room best-step best runner-up step =
+    (step ≤ 256) × (best < 65536) × Leads (modalAt offset stored) step best-step best runner-up × (length room ≡ length stored)
 
 abbrev μ-loop : tie.MeasureT-loop
-μ-loop stored offset best-step₀ best₀ runner-up₀ step₀ best-step best runner-up step = 256 - step
+μ-loop stored offset room₀ best-step₀ best₀ runner-up₀ step₀ room best-step best runner-up step = 256 - step
 
 loop-holds : tie.Need-loop-holds Inv-loop μ-loop
-loop-holds c = (search needs, search needs, leads-none (modalAt (c .before .args .offset) (now (c .before .args .stored))))
+loop-holds c =
+    let s = c .before .before in
+    (search needs, search needs, leads-none (modalAt (s .args .offset) (now (s .args .stored))), s .pre .1)
 
 cast-k : tie.Need-cast-k Inv-loop μ-loop
 cast-k c = search needs
@@ -35,9 +38,9 @@ loop-less c = search needs
 
 loop-again : tie.Need-loop-again Inv-loop μ-loop
 loop-again c =
-    let a = c .before .before .before .before .before .args in
-    let l = c .before .before .before .loop in
-    let p = c .before .modal-count in
+    let a = c .before .before .before .before .before .before .before .before .before .args in
+    let l = c .before .before .before .before .before .before .loop in
+    let p = c .before .before .before .modal-count in
     let f : ℕ → ℕ = modalAt (a .offset) (now (a .stored)) in
     let x : p .result ≡ f (l .step) = p .ensures in (
       omega arith,
@@ -51,14 +54,18 @@ loop-again c =
           (λ w. leads-as f (l .step + 1) (w .2) (w .3) refl
           (leads-stay f (l .step) (l .best-step) (l .best) (l .runner-up) (l .inv .2) (c .if1 .runner-up) (omega (arith, x, w .0 .left)) (omega (arith, x, w .4, w .1 .left)))))
           (c .if1 .came),
+      p .kept .1 .1 .1 .0 ∙ l .inv .3,
     )
 
-cast-t11 : tie.Need-cast-t11 Inv-loop μ-loop
-cast-t11 c = search needs
+cast-t14 : tie.Need-cast-t14 Inv-loop μ-loop
+cast-t14 c = search needs
+
+same-length : tie.Need-same-length Inv-loop μ-loop
+same-length c = c .before .loop .inv .3 ∙ sym (c .before .before .before .before .pre .1)
 
 returns : tie.Need-returns Inv-loop μ-loop
 returns c =
-    let a = c .before .before .before .args in
+    let a = c .before .before .before .before .args in
     let l = c .before .loop in
     let e : l .step ≡ 256 = omega arith in
     leads-fit (a .offset) (now (a .stored)) (l .best-step) (l .best) (l .runner-up)
@@ -76,5 +83,6 @@ fit-of-spec =
     add-step
     loop-less
     loop-again
-    cast-t11
+    cast-t14
+    same-length
     returns)

@@ -1,38 +1,32 @@
--- `histogram` meets its contract: the table tallies the shifted bytes that were seen.
+-- `histogram` meets its contract: the table tallies the bytes that were seen.
 use Prim.Native.Nat.{ℕ, _+_, _-_, _≤_, _<_}
 use mathlib.Core.Path.{_≡_, refl, sym, ap, _∙_, subst}
-use mathlib.Core.List.{_∷_, [], _++_}
+use mathlib.Core.List.{List, _∷_, [], _++_}
+use native.Mathlib.Numerals.{add-one}
 use native.Mathlib.Omega.{arith}
 use borrow.Author.Needs.{needs}
 use denote.Ref.{now}
 use lib.ListN.{length, getD, set, take, length-set}
+use lib.Seq.{take-suc, take-all, length-take-le}
 use Rattle.lists.specs.Counts.{Tallies}
 use Rattle.lists.proofs.Count.{tallies-none, tallies-more, tallies-le}
-use Rattle.sector.specs.Fit.{shiftedList}
-use Rattle.sector.proofs.Shifts.{shift-none, shift-more, shift-taken, shift-all}
 use Rattle.sector.proofs.scan.histogram.Statement.{statement}
 use Rattle.sector.proofs.scan.histogram.Tie as tie
 
 abbrev Inv-loop : tie.InvT-loop
-Inv-loop stored offset step hist₀ i₀ hist i =
-    (i ≤ length stored) × (length hist ≡ 256) × Tallies 256 hist (shiftedList offset step (take i stored))
+Inv-loop bytes hist₀ i₀ hist i = (i ≤ length bytes) × (length hist ≡ 256) × Tallies 256 hist (take i bytes)
 
 abbrev μ-loop : tie.MeasureT-loop
-μ-loop stored offset step hist₀ i₀ hist i = length stored - i
+μ-loop bytes hist₀ i₀ hist i = length bytes - i
 
 loop-holds : tie.Need-loop-holds Inv-loop μ-loop
-loop-holds c =
-    let a = c .before .args in
-    (search needs, refl, subst (Tallies 256 _) (sym (shift-none (a .offset) (a .step) (now (a .stored)))) (tallies-none 256))
+loop-holds c = (search needs, refl, tallies-none 256)
 
-shared-slice-read-shifted : tie.Need-shared-slice-read-shifted Inv-loop μ-loop
-shared-slice-read-shifted c = search needs
+shared-slice-read-wide : tie.Need-shared-slice-read-wide Inv-loop μ-loop
+shared-slice-read-wide c = search needs
 
-shifted-requires : tie.Need-shifted-requires Inv-loop μ-loop
-shifted-requires c κs = search needs
-
-cast-v : tie.Need-cast-v Inv-loop μ-loop
-cast-v c = search needs
+wide-requires : tie.Need-wide-requires Inv-loop μ-loop
+wide-requires c κs = search needs
 
 mul-hist : tie.Need-mul-hist Inv-loop μ-loop
 mul-hist c = search needs
@@ -44,9 +38,9 @@ add-hist : tie.Need-add-hist Inv-loop μ-loop
 add-hist c =
     let a = c .before .before .before .before .before .args in
     let l = c .before .before .before .loop in
-    let small : getD (l .hist) (c .shifted .result) 0 ≤ length (shiftedList (a .offset) (a .step) (take (l .i) (now (a .stored)))) =
-    tallies-le 256 (l .hist) _ (l .inv .2) (c .shifted .result) (search needs) in
-    omega (arith, shift-taken (a .offset) (a .step) (now (a .stored)) (l .i) (l .inv .0))
+    let small : getD (l .hist) (c .wide .result) 0 ≤ length (take (l .i) (now (a .bytes))) =
+    tallies-le 256 (l .hist) _ (l .inv .2) (c .wide .result) (c .wide .ensures .1) in
+    omega (arith, length-take-le (l .i) (now (a .bytes)) (l .inv .0))
 
 mul-hist-2 : tie.Need-mul-hist-2 Inv-loop μ-loop
 mul-hist-2 c = search needs
@@ -62,20 +56,19 @@ loop-less c = search needs
 
 loop-again : tie.Need-loop-again Inv-loop μ-loop
 loop-again c =
-    let a = c .before .before .before .before .before .args in
+    let bytes = now (c .before .before .before .before .before .args .bytes) in
     let l = c .before .before .before .loop in
-    let x = c .shifted .result in
-    let hx : x < length (l .hist) = omega arith in
-    let e : shiftedList (a .offset) (a .step) (take (l .i + 1) (now (a .stored))) ≡ shiftedList (a .offset) (a .step) (take (l .i) (now (a .stored))) ++ (x ∷ []) =
-    shift-more (a .offset) (a .step) (now (a .stored)) (l .i) (omega arith)
-    ∙ ap (λ (y : ℕ). shiftedList (a .offset) (a .step) (take (l .i) (now (a .stored))) ++ (y ∷ [])) (sym (c .shifted .ensures)) in
-    (omega arith, length-set (l .hist) x _ ∙ l .inv .1, subst (Tallies 256 (set (l .hist) x (getD (l .hist) x 0 + 1))) (sym e) (tallies-more 256 (l .hist) _ (l .inv .2) x hx))
+    let x = c .wide .result in
+    let e : take (l .i + 1) bytes ≡ take (l .i) bytes ++ (x ∷ []) =
+    ap (λ (n : ℕ). take n bytes) (add-one (l .i))
+    ∙ take-suc bytes (l .i) 0 (omega arith)
+    ∙ ap (λ (y : ℕ). take (l .i) bytes ++ (y ∷ [])) (sym (c .wide .ensures .0)) in
+    (omega arith, length-set (l .hist) x _ ∙ l .inv .1, subst (Tallies 256 (set (l .hist) x (getD (l .hist) x 0 + 1))) (sym e) (tallies-more 256 (l .hist) _ (l .inv .2) x (omega (arith, c .wide .ensures .1))))
 
 returns : tie.Need-returns Inv-loop μ-loop
 returns c =
-    let a = c .before .before .before .args in
     let l = c .before .loop in
-    subst (Tallies 256 (l .hist)) (shift-all (a .offset) (a .step) (now (a .stored)) (l .i) (omega arith)) (l .inv .2)
+    subst (Tallies 256 (l .hist)) (take-all (l .i) (now (c .before .before .before .args .bytes)) (omega arith)) (l .inv .2)
 
 pub histogram-spec : {M : Type 1} → statement M
 histogram-spec =
@@ -84,9 +77,8 @@ histogram-spec =
     Inv-loop
     μ-loop
     loop-holds
-    shared-slice-read-shifted
-    shifted-requires
-    cast-v
+    shared-slice-read-wide
+    wide-requires
     mul-hist
     array-read-hist
     add-hist

@@ -1,10 +1,14 @@
 -- `modal_count` meets its contract: the greatest entry of a table of counts is the greatest count.
-use mathlib.Core.Path.{_∙_}
+use mathlib.Core.Path.{ap, _∙_}
 use borrow.Author.Needs.{needs}
+use Rattle.lists.specs.Counts.{count}
 use Rattle.lists.proofs.Greatest.{greatest-ext}
 use Rattle.sector.specs.Fit.{modalOf, modalAt}
 use Rattle.sector.proofs.scan.modal_count.Statement.{statement}
 use Rattle.sector.proofs.scan.modal_count.Tie as tie
+
+write-shifted-requires : tie.Need-write-shifted-requires
+write-shifted-requires c κs = search needs
 
 histogram-requires : tie.Need-histogram-requires
 histogram-requires c κs = search needs
@@ -12,9 +16,12 @@ histogram-requires c κs = search needs
 largest-requires : tie.Need-largest-requires
 largest-requires c κs = search needs
 
+same-length : tie.Need-same-length
+same-length c = search needs
+
 returns : tie.Need-returns
 unfolding modalAt modalOf
-returns c = c .largest .ensures ∙ greatest-ext _ _ 256 (c .before .histogram .ensures .at)
+returns c = c .largest .ensures ∙ greatest-ext _ _ 256 (λ v h. c .before .histogram .ensures .at v h ∙ ap (count v) (c .before .before .before .before .before .write-shifted .ensures))
 
 pub modal-count-spec : {M : Type 1} → statement M
-modal-count-spec = tie.close (tie.spec histogram-requires largest-requires returns)
+modal-count-spec = tie.close (tie.spec write-shifted-requires histogram-requires largest-requires same-length returns)

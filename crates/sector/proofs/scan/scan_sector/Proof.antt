@@ -42,8 +42,8 @@ same-length c = search needs
 returns-3 : tie.Need-returns-3
 unfolding sectorOf
 returns-3 c =
-    let a = c .before .before .before .before .before .before .before .before .before .args in
-    let f = c .before .before .before .before .fit-of in
+    let a = c .before .before .before .before .before .before .before .before .before .before .before .before .args in
+    let f = c .before .before .before .before .before .before .fit-of in
     let h : length (now (a .stored)) ≤ 512 = omega arith in
     let e : length (now (a .out)) ≡ length (now (a .stored)) = omega arith in (
       f .ensures ∙ sym (fit-scanned (a .offset) (now (a .stored)) (now (a .out)) h e),
