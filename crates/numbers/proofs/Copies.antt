@@ -1,0 +1,41 @@
+-- Laws of bytes that are copied one after the other over all of a buffer. Assumes nothing.
+use Prim.Native.Nat.{ℕ, _+_, _≤_, _<_}
+use mathlib.Core.Path.{_≡_, sym, ap, _∙_}
+use mathlib.Core.List.{List, [], _∷_, _++_}
+use borrow.Author.Tests.{eq-eqb, ne-eqb}
+use native.Mathlib.Numerals.{add-one}
+use native.Mathlib.Omega.{arith}
+use lib.ListN.{length, take, drop, getD, set, length-drop}
+use lib.Seq.{take-suc, take-suc-set, take-all, length-take-le}
+use Rattle.lists.specs.Pieces.{over}
+use Rattle.numbers.specs.Writes.{copied}
+
+module _ (ys l : List ℕ) where
+  -- other lengths; one byte more; all bytes
+  pub copied-not : (length ys ≡ length l → ⊥) → l ≡ copied ys l
+  unfolding copied
+  copied-not h = rw (ne-eqb (length ys) (length l) h)
+
+  pub copied-same : length ys ≡ length l → copied ys l ≡ ys
+  unfolding copied
+  copied-same e = rw (eq-eqb (length ys) (length l) e)
+
+  pub copied-more : (i : ℕ) → take i l ≡ take i ys → i < length l → i < length ys → take (i + 1) (set l i (getD ys i 0)) ≡ take (i + 1) ys
+  copied-more i e h k =
+      rw add-one (take-suc-set l i (getD ys i 0) h ∙ ap (λ (v : List ℕ). v ++ (getD ys i 0 ∷ [])) e ∙ sym (take-suc ys i 0 k))
+
+  pub copied-all : (out : List ℕ) (i : ℕ) → length ys ≡ length l → length out ≡ length l → take i out ≡ take i ys → length ys ≤ i → out ≡ copied ys l
+  copied-all out i e n s h =
+      sym (take-all i out (omega arith)) ∙ s ∙ take-all i ys h ∙ sym (copied-same e)
+
+  -- a part that was lent, and copied to
+  pub copied-part :
+      (a k m : ℕ)
+      → a + length ys ≤ length l
+      → m ≡ length ys
+      → k ≡ length ys
+      → take a l ++ (copied ys (take m (drop a l)) ++ drop k (drop a l)) ≡ over l a ys
+  unfolding over copied
+  copied-part a k m h e f =
+      let n : length (take m (drop a l)) ≡ length ys = length-take-le m (drop a l) (omega (arith, length-drop a l)) ∙ e in
+      rw (eq-eqb (length ys) (length (take m (drop a l))) (sym n), f)

@@ -1,0 +1,31 @@
+// Bytes copied.
+ghost use mathlib.Core.Path.{_≡_};
+ghost use Rattle.numbers.specs.Writes.{Wrote, copied};
+
+// All of `out`, where it is as long as `from`; else it stays as it is.
+pub fn copy(from: &[u8], out: &mut [u8])
+    ensures { λ _. ⌜ now (out .exit) ≡ copied (now (from .entry)) (now (out .entry)) ⌝ }
+{
+    if from.len() != out.len() {
+        return;
+    }
+    let mut i: usize = 0;
+    while i < from.len() {
+        out[i] = from[i];
+        i += 1;
+    }
+}
+
+pub fn put_bytes(out: &mut [u8], at: usize, bytes: &[u8]) -> usize
+    ensures { λ r. ⌜ Wrote (now (out .entry)) at (now (bytes .entry)) (now (out .exit)) r ⌝ }
+{
+    if out.len() < bytes.len() {
+        return at;
+    }
+    if out.len() - bytes.len() < at {
+        return at;
+    }
+    let end = at + bytes.len();
+    copy(bytes, &mut out[at..end]);
+    end
+}
