@@ -1,13 +1,13 @@
 -- Laws of bytes that are copied one after the other over all of a buffer. Assumes nothing.
 use Prim.Native.Nat.{ℕ, _+_, _≤_, _<_}
-use mathlib.Core.Path.{_≡_, sym, ap, _∙_}
-use mathlib.Core.List.{List, [], _∷_, _++_}
+use mathlib.Core.Path.{_≡_, sym, _∙_}
+use mathlib.Core.List.{List, _++_}
 use borrow.Author.Tests.{eq-eqb, ne-eqb}
-use native.Mathlib.Numerals.{add-one}
 use native.Mathlib.Omega.{arith}
 use lib.ListN.{length, take, drop, getD, set, length-drop}
-use lib.Seq.{take-suc, take-suc-set, take-all, length-take-le}
+use lib.Seq.{take-all, length-take-le}
 use Rattle.lists.specs.Pieces.{over}
+use Rattle.lists.proofs.Filled.{write-more, take-more}
 use Rattle.numbers.specs.Writes.{copied}
 
 module _ (ys l : List ℕ) where
@@ -22,7 +22,7 @@ module _ (ys l : List ℕ) where
 
   pub copied-more : (i : ℕ) → take i l ≡ take i ys → i < length l → i < length ys → take (i + 1) (set l i (getD ys i 0)) ≡ take (i + 1) ys
   copied-more i e h k =
-      rw add-one (take-suc-set l i (getD ys i 0) h ∙ ap (λ (v : List ℕ). v ++ (getD ys i 0 ∷ [])) e ∙ sym (take-suc ys i 0 k))
+      write-more l (take i ys) i (getD ys i 0) h e ∙ take-more ys 0 i k
 
   pub copied-all : (out : List ℕ) (i : ℕ) → length ys ≡ length l → length out ≡ length l → take i out ≡ take i ys → length ys ≤ i → out ≡ copied ys l
   copied-all out i e n s h =
