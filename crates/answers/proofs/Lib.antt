@@ -1,3 +1,2 @@
--- Laws of the answers and of the tables beside them.
+-- Laws of the answers.
 pub mod Distinct
-pub mod Tables

@@ -1,5 +1,7 @@
 -- The options of a reading: the leniency bits, and T. Assumes nothing.
 use Prim.Native.Nat.{ℕ}
+use mathlib.Core.Bool.{Bool}
+use Rattle.lists.specs.Bytes.{hasBit}
 use Rattle.answers.specs.declared.settings.Leniency.{Leniency}
 use Rattle.answers.specs.declared.settings.Options.{Options}
 
@@ -8,3 +10,23 @@ leniencyOf bits = record { bits = bits }
 
 abbrev pub optionsOf : ℕ → ℕ → Options
 optionsOf bits t = record { leniency = leniencyOf bits; «min_trailer_count» = t }
+
+-- "KEYSTREAM (value 1)", "DIRECTORY (value 2)", "INTEGRITY (value 4)": the bits that relax a check
+abbrev pub hasKeystream : ℕ → Bool
+hasKeystream bits = hasBit bits 1
+
+abbrev pub hasDirectory : ℕ → Bool
+hasDirectory bits = hasBit bits 2
+
+abbrev pub hasIntegrity : ℕ → Bool
+hasIntegrity bits = hasBit bits 4
+
+-- what a reading's options relax
+abbrev pub keystream : Options → Bool
+keystream o = hasKeystream (o .leniency .bits)
+
+abbrev pub directory : Options → Bool
+directory o = hasDirectory (o .leniency .bits)
+
+abbrev pub integrity : Options → Bool
+integrity o = hasIntegrity (o .leniency .bits)

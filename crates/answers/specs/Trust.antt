@@ -1,6 +1,7 @@
 -- Document 01, "The program" and "Choosing bv": source, confidence and evidence by number. Assumes nothing.
 use Prim.Native.Nat.{ℕ, _+_}
 use mathlib.Core.Bool.{Bool}
+use mathlib.Core.List.{List, [], _∷_}
 use lib.Dec.{leb}
 use lib.ListN.{set, replicate}
 use Rattle.lists.specs.Cases.{pick}
@@ -39,6 +40,14 @@ evidenceNumber (evidence.ExactSectors count dissent) = 2
 evidenceNumber evidence.BlockAnchor = 3
 evidenceNumber (evidence.ZeroMass zeros lead) = 4
 evidenceNumber evidence.Unallocated = 5
+
+abbrev pub evidenceValues : Evidence → List ℕ
+evidenceValues evidence.Nothing = []
+evidenceValues evidence.TrailerRowCount = []
+evidenceValues (evidence.ExactSectors count dissent) = count ∷ dissent ∷ []
+evidenceValues evidence.BlockAnchor = []
+evidenceValues (evidence.ZeroMass zeros lead) = zeros ∷ lead ∷ []
+evidenceValues evidence.Unallocated = []
 
 -- the table of evidence; a full one stays as it is
 abbrev pub noGrounds : Grounds

@@ -1,5 +1,6 @@
 -- The warnings: each stands for the answer that leniency turned into it, and has that answer's number. Assumes nothing.
 use Prim.Native.Nat.{ℕ, _+_}
+use mathlib.Core.List.{List, [], _∷_}
 use lib.Dec.{leb}
 use lib.ListN.{set, replicate}
 use Rattle.lists.specs.Cases.{pick}
@@ -22,6 +23,20 @@ warningNumber warning.UnknownPrelude = 9
 warningNumber (warning.SlotDirectoryTruncated found expected) = 10
 warningNumber warning.AmbiguousSlotDirectory = 11
 warningNumber (warning.SlotOffsetsInDirectory dropped) = 12
+
+-- the values that stand beside the page number
+abbrev pub warningValues : WarningKind → List ℕ
+warningValues warning.Nothing = []
+warningValues warning.BadCrc = []
+warningValues warning.BadTrailer = []
+warningValues (warning.AmbiguousCalibration chosen) = chosen ∷ []
+warningValues (warning.UnverifiedKeystream bv) = bv ∷ []
+warningValues (warning.LowConfidenceSector sector peak runner) = sector ∷ peak ∷ runner ∷ []
+warningValues warning.UnverifiedDirectory = []
+warningValues warning.UnknownPrelude = []
+warningValues (warning.SlotDirectoryTruncated found expected) = found ∷ expected ∷ []
+warningValues warning.AmbiguousSlotDirectory = []
+warningValues (warning.SlotOffsetsInDirectory dropped) = dropped ∷ []
 
 abbrev pub blankWarning : Warning
 blankWarning = record { page = 0; kind = warning.Nothing }

@@ -1,6 +1,8 @@
 // The answers, each with its number and the values of document 01's table.
 ghost use mathlib.Core.Path.{_≡_};
-ghost use Rattle.answers.specs.Answers.{numberOf, isAccepted, reasonNumber, noBvs, withBv};
+ghost use Rattle.answers.specs.Values.{placed};
+ghost use Rattle.answers.specs.Answers.{numberOf, valuesOf, isAccepted, reasonNumber, noBvs, withBv};
+use crate::values::Values;
 
 // Why slot-like data is no directory.
 pub enum Reason {
@@ -109,6 +111,48 @@ impl Answer {
             Answer::TooManyCandidates(_) => 15,
             Answer::NoSuchRow(_) => 16,
             Answer::MalformedLine => 17,
+        }
+    }
+
+    // What the answer returns beside its number.
+    pub fn values(self) -> Values
+        ensures { λ r. ⌜ r ≡ placed (valuesOf self) ⌝ }
+    {
+        match self {
+            Answer::Accepted => Values::none(),
+            Answer::WrongPageLength(length) => Values::one(length as u64),
+            Answer::WrongBufferLength(length) => Values::one(length as u64),
+            Answer::BadCrc {
+                page,
+                stored,
+                computed,
+            } => Values::three(page, stored as u64, computed as u64),
+            Answer::BadTrailer(page) => Values::one(page),
+            Answer::AmbiguousCalibration(page) => Values::one(page),
+            Answer::KeystreamUnverified { page, bv } => Values::two(page, bv as u64),
+            Answer::LowConfidenceKeystream {
+                page,
+                sector,
+                peak,
+                runner_up,
+            } => Values::four(page, sector as u64, peak as u64, runner_up as u64),
+            Answer::NoSlotDirectory { page, reason } => Values::two(page, reason.number() as u64),
+            Answer::UnknownPrelude(page) => Values::one(page),
+            Answer::SlotDirectoryTruncated {
+                page,
+                found,
+                expected,
+                stop,
+            } => Values::four(page, found as u64, expected as u64, stop as u64),
+            Answer::AmbiguousSlotDirectory(page) => Values::one(page),
+            Answer::SlotOffsetInDirectory { page, offset, end } => {
+                Values::three(page, offset as u64, end as u64)
+            }
+            Answer::BadMagic(magic) => Values::one(magic as u64),
+            Answer::BadReplacement(sector) => Values::one(sector as u64),
+            Answer::TooManyCandidates(page) => Values::one(page),
+            Answer::NoSuchRow(row) => Values::one(row as u64),
+            Answer::MalformedLine => Values::none(),
         }
     }
 

@@ -4,6 +4,7 @@ mod kinds;
 mod notices;
 mod settings;
 mod trust;
+mod values;
 
 pub use kinds::Answer;
 pub use kinds::Bvs;
@@ -19,3 +20,4 @@ pub use trust::Evidence;
 pub use trust::Ground;
 pub use trust::Grounds;
 pub use trust::Source;
+pub use values::Values;

@@ -1,6 +1,8 @@
 // Warnings: what was accepted under leniency, with the Rust's fields.
 ghost use mathlib.Core.Path.{_≡_};
-ghost use Rattle.answers.specs.Warns.{warningNumber, noWarnings, withWarning, noParseWarnings, withParseWarning};
+ghost use Rattle.answers.specs.Values.{placed};
+ghost use Rattle.answers.specs.Warns.{warningNumber, warningValues, noWarnings, withWarning, noParseWarnings, withParseWarning};
+use crate::values::Values;
 
 // What was accepted. The other candidates of an ambiguous calibration stand beside it; an unused place has `Nothing`.
 pub enum WarningKind {
@@ -54,6 +56,31 @@ impl WarningKind {
             } => 10,
             WarningKind::AmbiguousSlotDirectory => 11,
             WarningKind::SlotOffsetsInDirectory { dropped: _ } => 12,
+        }
+    }
+
+    // What the warning says beside its page.
+    pub fn values(self) -> Values
+        ensures { λ r. ⌜ r ≡ placed (warningValues self) ⌝ }
+    {
+        match self {
+            WarningKind::Nothing => Values::none(),
+            WarningKind::BadCrc => Values::none(),
+            WarningKind::BadTrailer => Values::none(),
+            WarningKind::AmbiguousCalibration { chosen } => Values::one(chosen as u64),
+            WarningKind::UnverifiedKeystream { bv } => Values::one(bv as u64),
+            WarningKind::LowConfidenceSector {
+                sector,
+                peak,
+                runner_up,
+            } => Values::three(sector as u64, peak as u64, runner_up as u64),
+            WarningKind::UnverifiedDirectory => Values::none(),
+            WarningKind::UnknownPrelude => Values::none(),
+            WarningKind::SlotDirectoryTruncated { found, expected } => {
+                Values::two(found as u64, expected as u64)
+            }
+            WarningKind::AmbiguousSlotDirectory => Values::none(),
+            WarningKind::SlotOffsetsInDirectory { dropped } => Values::one(dropped as u64),
         }
     }
 }

@@ -1,7 +1,6 @@
 // What a reader may relax, and from which row count on the row-count test counts.
 ghost use mathlib.Core.Path.{_≡_};
-ghost use Rattle.lists.specs.Bytes.{hasBit};
-ghost use Rattle.answers.specs.Settings.{leniencyOf, optionsOf};
+ghost use Rattle.answers.specs.Settings.{leniencyOf, optionsOf, hasKeystream, hasDirectory, hasIntegrity};
 
 // The checks that are relaxed. Other bits mean nothing.
 pub struct Leniency {
@@ -25,19 +24,19 @@ impl Leniency {
     }
 
     pub fn keystream(self) -> bool
-        ensures { λ r. ⌜ r ≡ hasBit (self .bits) 1 ⌝ }
+        ensures { λ r. ⌜ r ≡ hasKeystream (self .bits) ⌝ }
     {
         self.bits / Leniency::KEYSTREAM % 2 == 1
     }
 
     pub fn directory(self) -> bool
-        ensures { λ r. ⌜ r ≡ hasBit (self .bits) 2 ⌝ }
+        ensures { λ r. ⌜ r ≡ hasDirectory (self .bits) ⌝ }
     {
         self.bits / Leniency::DIRECTORY % 2 == 1
     }
 
     pub fn integrity(self) -> bool
-        ensures { λ r. ⌜ r ≡ hasBit (self .bits) 4 ⌝ }
+        ensures { λ r. ⌜ r ≡ hasIntegrity (self .bits) ⌝ }
     {
         self.bits / Leniency::INTEGRITY % 2 == 1
     }

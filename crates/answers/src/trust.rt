@@ -1,6 +1,8 @@
 // Where a bv came from, how far it can be trusted, and on what grounds.
 ghost use mathlib.Core.Path.{_≡_};
-ghost use Rattle.answers.specs.Trust.{sourceNumber, confidenceNumber, evidenceNumber, noGrounds, withGround, groundIf};
+ghost use Rattle.answers.specs.Values.{placed};
+ghost use Rattle.answers.specs.Trust.{sourceNumber, confidenceNumber, evidenceNumber, evidenceValues, noGrounds, withGround, groundIf};
+use crate::values::Values;
 
 // How a page's bv was determined; of a refusal, `Refused`.
 pub enum Source {
@@ -78,6 +80,19 @@ impl Evidence {
             Evidence::BlockAnchor => 3,
             Evidence::ZeroMass { zeros: _, lead: _ } => 4,
             Evidence::Unallocated => 5,
+        }
+    }
+
+    pub fn values(self) -> Values
+        ensures { λ r. ⌜ r ≡ placed (evidenceValues self) ⌝ }
+    {
+        match self {
+            Evidence::Nothing => Values::none(),
+            Evidence::TrailerRowCount => Values::none(),
+            Evidence::ExactSectors { count, dissent } => Values::two(count as u64, dissent as u64),
+            Evidence::BlockAnchor => Values::none(),
+            Evidence::ZeroMass { zeros, lead } => Values::two(zeros as u64, lead as u64),
+            Evidence::Unallocated => Values::none(),
         }
     }
 }

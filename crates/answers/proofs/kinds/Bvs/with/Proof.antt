@@ -1,19 +1,16 @@
-use Rattle.answers.proofs.Tables.{bv-full, bv-kept}
+use Rattle.lists.proofs.Picks.{pick-le, pick-gt}
+use Rattle.answers.specs.Answers.{withBv}
 use borrow.Author.Needs.{needs}
 use Rattle.answers.proofs.kinds.Bvs.with.Statement.{statement}
 use Rattle.answers.proofs.kinds.Bvs.with.Tie as tie
 
 returns : tie.Need-returns
-returns c = bv-full _ _ (search needs)
-
-element-write-next : tie.Need-element-write-next
-element-write-next c = search needs
-
-add-next : tie.Need-add-next
-add-next c = search needs
+unfolding withBv
+returns c = pick-le _ _ 8 (c .before .args .self .len) (search needs)
 
 returns-2 : tie.Need-returns-2
-returns-2 c = bv-kept _ _ (search needs)
+unfolding withBv
+returns-2 c = pick-gt _ _ 8 (c .before .args .self .len) (search needs)
 
 pub with-spec : {M : Type 1} → statement M
-with-spec = tie.close (tie.spec returns element-write-next add-next returns-2)
+with-spec = tie.close (tie.spec returns (λ c. search needs) (λ c. search needs) returns-2)

@@ -1,22 +1,16 @@
-use Rattle.answers.proofs.Tables.{warning-full, warning-kept}
+use Rattle.lists.proofs.Picks.{pick-le, pick-gt}
+use Rattle.answers.specs.Warns.{withWarning}
 use borrow.Author.Needs.{needs}
 use Rattle.answers.proofs.notices.Warnings.with.Statement.{statement}
 use Rattle.answers.proofs.notices.Warnings.with.Tie as tie
 
 returns : tie.Need-returns
-returns c = warning-full _ _ _ (search needs)
-
-mul-t8 : tie.Need-mul-t8
-mul-t8 c = search needs
-
-element-set-from-next : tie.Need-element-set-from-next
-element-set-from-next c = search needs
-
-add-next : tie.Need-add-next
-add-next c = search needs
+unfolding withWarning
+returns c = pick-le _ _ 10 (c .before .args .self .len) (search needs)
 
 returns-2 : tie.Need-returns-2
-returns-2 c = warning-kept _ _ _ (search needs)
+unfolding withWarning
+returns-2 c = pick-gt _ _ 10 (c .before .args .self .len) (search needs)
 
 pub with-spec : {M : Type 1} → statement M
-with-spec = tie.close (tie.spec returns mul-t8 element-set-from-next add-next returns-2)
+with-spec = tie.close (tie.spec returns (λ c. search needs) (λ c. search needs) (λ c. search needs) returns-2)
