@@ -1,5 +1,5 @@
 #!/usr/bin/env python3
-"""Writes `stdin` and `stdout` beside this file: lines for `report`, and what document 01 answers to them.
+"""Writes `stdin` and `stdout` of `report`, `report_empty` and `report_blocks`: lines for the program, and what document 01 answers to them.
 
 The answers come from the model below, which follows document 01 sentence by sentence and shares nothing with the crates. It is slow and plain:
 256 histograms for each sector. CRC-32 is zlib's.
@@ -217,13 +217,29 @@ def lines():
     yield frame(2, sealed(hidden(2, zero, 0xFF, steps))).upper()         # and a last line with no newline
 
 
-def main():
-    here = os.path.dirname(os.path.abspath(__file__))
-    given = list(lines())
+def many():
+    """Answers that no buffer of 65,536 characters holds, so that it is written in the middle of a block; then frames, one over the block's edge."""
+    for _ in range(22000):
+        yield b""
+    for page in range(8):
+        yield frame(page, bytes(PAGE))
+
+
+def write(crate, data, given):
+    here = os.path.join(os.path.dirname(os.path.abspath(__file__)), "..", crate)
     with open(os.path.join(here, "stdin"), "wb") as file:
-        file.write(b"\n".join(given))
+        file.write(data)
     with open(os.path.join(here, "stdout"), "w") as file:
-        file.write("".join(report(line) + "\n" for line in given))
+        known = {}
+        file.write("".join(known.setdefault(line, report(line)) + "\n" for line in given))
+
+
+def main():
+    given = list(lines())
+    write("report", b"\n".join(given), given)
+    write("report_empty", b"", [])
+    given = list(many())
+    write("report_blocks", b"".join(line + b"\n" for line in given), given)
 
 
 if __name__ == "__main__":

@@ -1,6 +1,6 @@
 // What a reader may relax, and from which row count on the row-count test counts.
 ghost use mathlib.Core.Path.{_≡_};
-ghost use Rattle.answers.specs.Settings.{leniencyOf, optionsOf, hasKeystream, hasDirectory, hasIntegrity};
+ghost use Rattle.answers.specs.Settings.{leniencyOf, optionsOf, hasKeystream, hasDirectory, hasIntegrity, keystream, directory, integrity};
 
 // The checks that are relaxed. Other bits mean nothing.
 pub struct Leniency {
@@ -67,5 +67,26 @@ impl Options {
         ensures { λ r. ⌜ r ≡ optionsOf 0 4 ⌝ }
     {
         Options::new(0, Options::MIN_TRAILER_COUNT)
+    }
+
+    pub fn keystream(self) -> bool
+        ensures { λ r. ⌜ r ≡ keystream self ⌝ }
+    {
+        let leniency = self.leniency;
+        leniency.keystream()
+    }
+
+    pub fn directory(self) -> bool
+        ensures { λ r. ⌜ r ≡ directory self ⌝ }
+    {
+        let leniency = self.leniency;
+        leniency.directory()
+    }
+
+    pub fn integrity(self) -> bool
+        ensures { λ r. ⌜ r ≡ integrity self ⌝ }
+    {
+        let leniency = self.leniency;
+        leniency.integrity()
     }
 }

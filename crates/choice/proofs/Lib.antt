@@ -1,5 +1,3 @@
--- Laws of the groups of candidates, of the rules, and of the choice.
-pub mod Tables
-pub mod Members
-pub mod Deciding
-pub mod Chosen
+-- Laws of the rules, and of the choice.
+pub mod ChoiceCases
+pub mod ChosenByte

@@ -1,4 +1,3 @@
 -- The choice of bv.
-pub mod Groups
 pub mod Rules
 pub mod Supplied

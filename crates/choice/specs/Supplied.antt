@@ -8,6 +8,7 @@ use Rattle.lists.specs.Cases.{pick}
 use Rattle.lists.specs.Bytes.{plainOf}
 use Rattle.lists.specs.Counts.{count}
 use Rattle.answers.specs.Answers.{noBvs}
+use Rattle.answers.specs.Settings.{keystream}
 use Rattle.answers.specs.Trust.{noGrounds, groundIf}
 use Rattle.answers.specs.declared.kinds.Answer.the-variants as answer
 use Rattle.answers.specs.declared.trust.Source.the-variants as source
@@ -21,7 +22,7 @@ use Rattle.answers.specs.declared.settings.Options.{Options}
 use Rattle.slots.specs.Slots.{rowCountMatches}
 use Rattle.votes.specs.Votes.{ballots}
 use Rattle.choice.specs.declared.Choice.{Choice}
-use Rattle.choice.specs.Rules.{isLenient, refusedOf}
+use Rattle.choice.specs.Rules.{refusedOf}
 
 -- "source supplied, .. no zero mass"
 abbrev pub suppliedWith : ℕ → Confidence → Grounds → WarningKind → Choice
@@ -31,18 +32,18 @@ suppliedWith bv k g w =
 -- "Exact-sector evidence needs two votes, and calibrates if there is no dissent. The row-count test, without the nonzero guard, verifies and
 -- stands first. Neither calibrated nor verified: 6, or under KEYSTREAM unverified, with a warning": by votes, dissent and the row-count test
 unfoldable pub suppliedBy : ℕ → Bool → ℕ → ℕ → ℕ → Bool → Choice
-suppliedBy page lenient bv votes dissent matches =
+suppliedBy number lenient bv votes dissent matches =
     let grounds : Grounds = groundIf (leb 2 votes) (groundIf matches noGrounds evidence.TrailerRowCount) (evidence.ExactSectors votes dissent) in
     pick matches (suppliedWith bv confidence.Verified grounds warning.Nothing)
     (pick (leb 2 votes && eqb dissent 0) (suppliedWith bv confidence.Calibrated grounds warning.Nothing)
     (pick lenient
     (suppliedWith bv confidence.Unverified grounds (warning.UnverifiedKeystream bv))
-    (refusedOf (answer.KeystreamUnverified page bv) noBvs)))
+    (refusedOf (answer.KeystreamUnverified number bv) noBvs)))
 
--- for shifted bytes xs, of which there must be 4,080
+-- for the shifted bytes, of which there must be 4,080
 unfoldable pub suppliedOf : ℕ → ℕ → ℕ → List ℕ → ℕ → Options → Choice
-suppliedOf lim page bv xs n o =
-    let votes : ℕ = count bv (ballots xs) in
-    pick (eqb (length xs) 4080)
-    (suppliedBy page (isLenient o) bv votes (length (ballots xs) - votes) (rowCountMatches lim (plainOf bv xs) n (o .«min_trailer_count»)))
-    (refusedOf (answer.WrongBufferLength (length xs)) noBvs)
+suppliedOf lim number bv shifted n o =
+    let votes : ℕ = count bv (ballots shifted) in
+    pick (eqb (length shifted) 4080)
+    (suppliedBy number (keystream o) bv votes (length (ballots shifted) - votes) (rowCountMatches lim (plainOf bv shifted) n (o .«min_trailer_count»)))
+    (refusedOf (answer.WrongBufferLength (length shifted)) noBvs)

@@ -1,6 +1,5 @@
 // The choice of bv: document 01, "Choosing bv"; `choose_bv` and the choice of `deobfuscate_with_bv` in the Rust's ap.rs. Four rules, in order,
-// each a function of its own, over the candidates of an assessment; a group of candidates is a value, so one loop serves every rule.
-mod groups;
+// each a function of its own, over the candidates of an assessment.
 mod rules;
 mod supplied;
 
@@ -13,6 +12,7 @@ use answers::Source;
 use answers::WarningKind;
 pub use supplied::supplied_bv;
 ghost use mathlib.Core.Path.{_≡_};
+ghost use Rattle.slots.specs.Slots.{searchLimit};
 ghost use Rattle.choice.specs.Rules.{refusedOf, choiceOf};
 
 // The choice. `group`: of answer 5 the candidates; of an ambiguous choice that was let through, those it was preferred to.
@@ -26,20 +26,9 @@ pub struct Choice {
     pub warned: WarningKind,
 }
 
-// Groups of candidates that the rules speak of.
-pub enum Group {
-    Verified,
-    Voted,
-    Only(u8),
-    Others(u8),
-    Rivals { bv: u8, top: u8 },
-    Contest { bv: u8, top: u8 },
-    Supported(u8),
-}
-
 // The choice for a page's 4,080 shifted bytes, with the stored row count n.
-pub fn choose_bv(page: u64, shifted: &[u8], anchors: &[u8], n: u8, options: Options) -> Choice
-    ensures { λ r. ⌜ r ≡ choiceOf 0x300 page (now (shifted .entry)) (now (anchors .entry)) n options ⌝ }
+pub fn choose_bv(number: u64, shifted: &[u8], anchors: &[u8], n: u8, options: Options) -> Choice
+    ensures { λ r. ⌜ r ≡ choiceOf searchLimit number (now (shifted .entry)) (now (anchors .entry)) n options ⌝ }
 {
     let none = Bvs::none();
     let length = shifted.len();
@@ -49,10 +38,10 @@ pub fn choose_bv(page: u64, shifted: &[u8], anchors: &[u8], n: u8, options: Opti
     let a = votes::assess(shifted, anchors, n, options.min_trailer_count);
     let found = a.candidates;
     if 8 < found.len {
-        return refused(Answer::TooManyCandidates(page), none);
+        return refused(Answer::TooManyCandidates(number), none);
     }
     let leniency = options.leniency;
-    rules::rule_one(page, leniency.keystream(), a)
+    rules::rule_one(number, leniency.keystream(), a)
 }
 
 // Nothing is taken.

@@ -1,11 +1,5 @@
 // The four rules, in order: each decides, or hands on to the next.
 use crate::Choice;
-use crate::Group;
-use crate::groups::best;
-use crate::groups::bvs;
-use crate::groups::first;
-use crate::groups::kept;
-use crate::groups::most;
 use crate::refused;
 use answers::Answer;
 use answers::Bvs;
@@ -14,32 +8,38 @@ use answers::Evidence;
 use answers::Grounds;
 use answers::Source;
 use answers::WarningKind;
+use groups::Group;
+use groups::bvs;
+use groups::first;
+use groups::highest;
+use groups::kept;
+use groups::most;
 use votes::Assessment;
 use votes::Candidate;
 use votes::Candidates;
 ghost use mathlib.Core.Path.{_≡_};
-ghost use Prim.Native.Nat.{ℕ, _-_};
-ghost use Rattle.choice.specs.Groups.{listed};
+ghost use Prim.Native.Nat.{_-_};
+ghost use Rattle.votes.specs.Votes.{listed};
 ghost use Rattle.choice.specs.Rules.{groundsOf, takenOf, ambiguousOf, unverifiedOf, ruleFour, isCorroborated, ruleThree, isCalibrated, ruleTwo, soleOf, ruleOne};
 
 // Rule 1, and the others after it. Two or more verified are ambiguous.
-pub(crate) fn rule_one(page: u64, lenient: bool, a: Assessment) -> Choice
-    ensures { λ r. ⌜ r ≡ ruleOne page lenient a ⌝ }
+pub(crate) fn rule_one(number: u64, lenient: bool, a: Assessment) -> Choice
+    ensures { λ r. ⌜ r ≡ ruleOne number lenient a ⌝ }
 {
     let candidates = a.candidates;
     let verified = kept(Group::Verified, candidates);
     if 2 <= verified.len {
-        return ambiguous(page, lenient, a, verified);
+        return ambiguous(number, lenient, a, verified);
     }
     if verified.len == 1 {
-        return sole(page, lenient, a, first(verified));
+        return sole(number, lenient, a, first(verified));
     }
-    rule_two(page, lenient, a)
+    rule_two(number, lenient, a)
 }
 
 // One verified candidate is taken, if it has no rival.
-fn sole(page: u64, lenient: bool, a: Assessment, v: Candidate) -> Choice
-    ensures { λ r. ⌜ r ≡ soleOf page lenient a v ⌝ }
+fn sole(number: u64, lenient: bool, a: Assessment, v: Candidate) -> Choice
+    ensures { λ r. ⌜ r ≡ soleOf number lenient a v ⌝ }
 {
     let bv = v.bv;
     let top = a.top;
@@ -57,17 +57,17 @@ fn sole(page: u64, lenient: bool, a: Assessment, v: Candidate) -> Choice
         );
     }
     let contest = kept(Group::Contest { bv, top }, candidates);
-    ambiguous(page, lenient, a, contest)
+    ambiguous(number, lenient, a, contest)
 }
 
 // Rule 2. Two or more voted values are ambiguous; one with two votes or more is taken.
-fn rule_two(page: u64, lenient: bool, a: Assessment) -> Choice
-    ensures { λ r. ⌜ r ≡ ruleTwo page lenient a ⌝ }
+fn rule_two(number: u64, lenient: bool, a: Assessment) -> Choice
+    ensures { λ r. ⌜ r ≡ ruleTwo number lenient a ⌝ }
 {
     let candidates = a.candidates;
     let voted = kept(Group::Voted, candidates);
     if 2 <= voted.len {
-        return ambiguous(page, lenient, a, voted);
+        return ambiguous(number, lenient, a, voted);
     }
     if is_calibrated(voted) {
         let none = Bvs::none();
@@ -81,7 +81,7 @@ fn rule_two(page: u64, lenient: bool, a: Assessment) -> Choice
             none,
         );
     }
-    rule_three(page, lenient, a)
+    rule_three(number, lenient, a)
 }
 
 // One voted value, with two votes or more.
@@ -96,8 +96,8 @@ fn is_calibrated(voted: Candidates) -> bool
 }
 
 // Rule 3. The top is taken, if it is corroborated.
-fn rule_three(page: u64, lenient: bool, a: Assessment) -> Choice
-    ensures { λ r. ⌜ r ≡ ruleThree page lenient a ⌝ }
+fn rule_three(number: u64, lenient: bool, a: Assessment) -> Choice
+    ensures { λ r. ⌜ r ≡ ruleThree number lenient a ⌝ }
 {
     let candidates = a.candidates;
     let c = first(kept(Group::Only(a.top), candidates));
@@ -112,7 +112,7 @@ fn rule_three(page: u64, lenient: bool, a: Assessment) -> Choice
             none,
         );
     }
-    rule_four(page, lenient, a)
+    rule_four(number, lenient, a)
 }
 
 // One vote in all, for it; anchored; no other candidate voted or anchored.
@@ -134,23 +134,23 @@ fn is_corroborated(a: Assessment, c: Candidate) -> bool
 }
 
 // Rule 4. Nothing confirms the top.
-fn rule_four(page: u64, lenient: bool, a: Assessment) -> Choice
-    ensures { λ r. ⌜ r ≡ ruleFour page lenient a ⌝ }
+fn rule_four(number: u64, lenient: bool, a: Assessment) -> Choice
+    ensures { λ r. ⌜ r ≡ ruleFour number lenient a ⌝ }
 {
     let candidates = a.candidates;
     let c = first(kept(Group::Only(a.top), candidates));
-    unverified(page, lenient, a, c)
+    unverified(number, lenient, a, c)
 }
 
 // Several candidates: refused; under leniency the one that ranks highest.
-fn ambiguous(page: u64, lenient: bool, a: Assessment, group: Candidates) -> Choice
-    ensures { λ r. ⌜ r ≡ ambiguousOf page lenient a (listed group) ⌝ }
+fn ambiguous(number: u64, lenient: bool, a: Assessment, group: Candidates) -> Choice
+    ensures { λ r. ⌜ r ≡ ambiguousOf number lenient a (listed group) ⌝ }
 {
     if !lenient {
         let all = bvs(group);
-        return refused(Answer::AmbiguousCalibration(page), all);
+        return refused(Answer::AmbiguousCalibration(number), all);
     }
-    let c = best(group);
+    let c = highest(group);
     let others = bvs(kept(Group::Others(c.bv), group));
     taken(
         a,
@@ -163,12 +163,18 @@ fn ambiguous(page: u64, lenient: bool, a: Assessment, group: Candidates) -> Choi
 }
 
 // A candidate that nothing confirms: refused; under leniency taken.
-fn unverified(page: u64, lenient: bool, a: Assessment, c: Candidate) -> Choice
-    ensures { λ r. ⌜ r ≡ unverifiedOf page lenient a c ⌝ }
+fn unverified(number: u64, lenient: bool, a: Assessment, c: Candidate) -> Choice
+    ensures { λ r. ⌜ r ≡ unverifiedOf number lenient a c ⌝ }
 {
     let none = Bvs::none();
     if !lenient {
-        return refused(Answer::KeystreamUnverified { page, bv: c.bv }, none);
+        return refused(
+            Answer::KeystreamUnverified {
+                page: number,
+                bv: c.bv,
+            },
+            none,
+        );
     }
     taken(
         a,

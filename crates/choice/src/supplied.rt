@@ -13,11 +13,12 @@ use answers::WarningKind;
 ghost use mathlib.Core.Path.{_≡_};
 ghost use mathlib.Core.Bool.{_&&_};
 ghost use lib.Dec.{leb, eqb};
+ghost use Rattle.slots.specs.Slots.{searchLimit};
 ghost use Rattle.choice.specs.Supplied.{suppliedWith, suppliedBy, suppliedOf};
 
 // For a page's 4,080 shifted bytes, with the stored row count n.
-pub fn supplied_bv(page: u64, bv: u8, shifted: &[u8], n: u8, options: Options) -> Choice
-    ensures { λ r. ⌜ r ≡ suppliedOf 0x300 page bv (now (shifted .entry)) n options ⌝ }
+pub fn supplied_bv(number: u64, bv: u8, shifted: &[u8], n: u8, options: Options) -> Choice
+    ensures { λ r. ⌜ r ≡ suppliedOf searchLimit number bv (now (shifted .entry)) n options ⌝ }
 {
     let length = shifted.len();
     if length != 4080 {
@@ -29,17 +30,31 @@ pub fn supplied_bv(page: u64, bv: u8, shifted: &[u8], n: u8, options: Options) -
     let matches = slots::trailer_row_count_matches(
         shifted,
         bv,
-        0x300,
+        slots::SEARCH_LIMIT,
         n,
         options.min_trailer_count,
     );
     let leniency = options.leniency;
-    supplied_by(page, leniency.keystream(), bv, poll.votes, dissent, matches)
+    supplied_by(
+        number,
+        leniency.keystream(),
+        bv,
+        poll.votes,
+        dissent,
+        matches,
+    )
 }
 
 // By the votes for it, the dissent, and the row-count test.
-fn supplied_by(page: u64, lenient: bool, bv: u8, votes: u16, dissent: u16, matches: bool) -> Choice
-    ensures { λ r. ⌜ r ≡ suppliedBy page lenient bv votes dissent matches ⌝ }
+fn supplied_by(
+    number: u64,
+    lenient: bool,
+    bv: u8,
+    votes: u16,
+    dissent: u16,
+    matches: bool,
+) -> Choice
+    ensures { λ r. ⌜ r ≡ suppliedBy number lenient bv votes dissent matches ⌝ }
 {
     let rows = Grounds::none().with_if(matches, Evidence::TrailerRowCount);
     let grounds = rows.with_if(
@@ -64,7 +79,7 @@ fn supplied_by(page: u64, lenient: bool, bv: u8, votes: u16, dissent: u16, match
         );
     }
     let none = Bvs::none();
-    refused(Answer::KeystreamUnverified { page, bv }, none)
+    refused(Answer::KeystreamUnverified { page: number, bv }, none)
 }
 
 // Two votes or more, and no dissent.

@@ -10,12 +10,12 @@ use lib.Dec.{lit<, lit≤}
 use lib.ListN.{length, getD, take, drop, replicate, length-append, length-drop, take-append-drop}
 use lib.Pow.{pow-mono, split, shr-shr}
 use lib.Seq.{getD-drop, drop-append-le, ext-getD}
-use Rattle.crc.specs.Register.{steps, valueOf, registerAfter}
+use Rattle.checksum.specs.Register.{steps, valueOf, registerAfter}
 use Rattle.crc.specs.Folds.{foldedAt, leadOf}
-use Rattle.crc.proofs.Xor.{xor-assoc}
-use Rattle.crc.proofs.Steps.{steps-xor, steps-add, run-back}
-use Rattle.crc.proofs.Octets.{length-content, value-cons, value-append, value-lt}
-use Rattle.crc.proofs.Sparse.{sparse-2400}
+use Rattle.checksum.proofs.Xor.{xor-assoc}
+use Rattle.checksum.proofs.Steps.{steps-xor, steps-add, run-back}
+use Rattle.checksum.proofs.Octets.{length-content, value-cons, value-append, value-lt}
+use Rattle.checksum.proofs.Sparse.{sparse-2400}
 
 -- ---- the sum of two lists of octets, of which the second is no longer
 

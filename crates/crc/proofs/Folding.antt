@@ -9,7 +9,7 @@ use borrow.Author.Count.{below-more}
 use lib.Bits.{bitXor}
 use lib.ListN.{length, getD, take, drop, set, replicate, length-set, length-take, length-drop, List·getD-eq-default, List·getD-append}
 use lib.Seq.{getD-take, getD-drop, getD-set-same, getD-set-other, take-set-le, take-take, length-take-le, getD-append-add}
-use Rattle.crc.specs.Register.{registerAfter}
+use Rattle.checksum.specs.Register.{registerAfter}
 use Rattle.crc.specs.Folds.{foldedAt, Folding, LeftOver}
 use Rattle.crc.proofs.Elimination.{elimination}
 

@@ -1,4 +1,4 @@
--- Folding: octets are struck out and added further on. The list of sums has 300 places before the octets. Assumes nothing.
+-- Private: no part of the rules. Folding: octets are struck out and added further on. The list of sums has 300 places before the octets. Assumes nothing.
 use Prim.Native.Nat.{ℕ, _+_, _/_, _%_, _^_, _<_, _≤_}
 use mathlib.Core.Path.{_≡_}
 use mathlib.Core.List.{List, _∷_}

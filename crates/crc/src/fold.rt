@@ -3,7 +3,7 @@
 ghost use mathlib.Core.Path.{_≡_};
 ghost use Prim.Native.Nat.{_+_, _-_, _%_, _^_, _≤_};
 ghost use lib.ListN.{length};
-ghost use Rattle.crc.specs.Register.{registerAfter};
+ghost use Rattle.checksum.specs.Register.{registerAfter};
 ghost use Rattle.crc.specs.Folds.{Folding, LeftOver};
 use crate::wide;
 

@@ -12,8 +12,8 @@ mod wide;
 
 ghost use mathlib.Core.Path.{_≡_};
 ghost use Prim.Native.Nat.{_-_, _^_};
-ghost use Rattle.crc.specs.V42.{crc32Of};
-ghost use Rattle.crc.specs.Register.{registerAfter};
+ghost use Rattle.checksum.specs.V42.{crc32Of};
+ghost use Rattle.checksum.specs.Register.{registerAfter};
 
 pub fn crc32(bytes: &[u8]) -> u32
     ensures { λ r. ⌜ r ≡ crc32Of (now (bytes .entry)) ⌝ }

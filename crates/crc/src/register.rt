@@ -3,7 +3,7 @@ ghost use mathlib.Core.Path.{_≡_};
 ghost use Prim.Native.Nat.{_+_, _≤_, _<_};
 ghost use lib.Bits.{bitXor};
 ghost use lib.ListN.{length, getD, take, drop};
-ghost use Rattle.crc.specs.Register.{step, steps, valueOf, registerAfter};
+ghost use Rattle.checksum.specs.Register.{step, steps, valueOf, registerAfter};
 
 // The register after the octets, a word at a time, and then octet by octet.
 pub(crate) fn after_short(start: u32, octets: &[u8]) -> u32

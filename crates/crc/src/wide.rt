@@ -2,7 +2,7 @@
 ghost use mathlib.Core.Path.{_≡_};
 ghost use Prim.Native.Nat.{_+_, _≤_};
 ghost use lib.ListN.{length, drop};
-ghost use Rattle.crc.specs.Register.{registerAfter, wideRegister};
+ghost use Rattle.checksum.specs.Register.{registerAfter, wideRegister};
 use crate::register;
 
 // The register after the octets: a word a turn, up to the last 40 octets, which are reduced with the five words.

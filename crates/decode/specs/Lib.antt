@@ -1,3 +1,2 @@
 -- The decoding of a page.
-pub mod Sectors
 pub mod Decode

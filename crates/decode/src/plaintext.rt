@@ -1,36 +1,21 @@
 // What a decoding writes.
 ghost use mathlib.Core.Path.{_≡_};
 ghost use lib.ListN.{length};
-ghost use Rattle.lists.specs.Cases.{pick};
 ghost use Rattle.lists.specs.Bytes.{less, plainOf};
-ghost use Rattle.answers.specs.Answers.{isAccepted};
-ghost use Rattle.decode.specs.Decode.{plainPage};
-use crate::Decoding;
+ghost use Rattle.decode.specs.Decode.{deliveredOf};
+use choice::Choice;
 
-// A decoding is settled: where it accepts, the plain page is written.
-pub(crate) fn deliver(decoding: Decoding, stored: &[u8], shifted: &[u8], out: &mut [u8]) -> Decoding
-    requires { ⌜ (length (now stored) ≡ 4096) × (length (now shifted) ≡ 4080) × (length (now out) ≡ 4096) ⌝ }
-    ensures { λ r. ⌜ (r ≡ decoding) × (now (out .exit) ≡ pick (isAccepted (decoding .choice .answer)) (plainPage (decoding .choice .bv) (now (shifted .entry)) (now (stored .entry))) (now (out .entry))) ⌝ }
+// A page that was written is decided: where the choice is accepted, the plain page is written.
+pub(crate) fn deliver(choice: Choice, stored: &[u8], shifted: &[u8], out: &mut [u8])
+    requires { ⌜ (length (now stored) ≡ 4096) × (length (now out) ≡ 4096) × (length (now shifted) ≡ 4080) ⌝ }
+    ensures { λ _. ⌜ now (out .exit) ≡ deliveredOf choice (now (stored .entry)) (now (shifted .entry)) (now (out .entry)) ⌝ }
 {
-    let choice = decoding.choice;
     let answer = choice.answer;
     if !answer.accepted() {
-        return decoding;
+        return;
     }
     unshift(shifted, choice.bv, &mut out[0..4080]);
-    copy(&stored[4080..], &mut out[4080..]);
-    decoding
-}
-
-pub(crate) fn copy(from: &[u8], out: &mut [u8])
-    requires { ⌜ length (now out) ≡ length (now from) ⌝ }
-    ensures { λ r. ⌜ now (out .exit) ≡ now (from .entry) ⌝ }
-{
-    let mut i: usize = 0;
-    while i < from.len() {
-        out[i] = from[i];
-        i += 1;
-    }
+    numbers::copy(&stored[4080..], &mut out[4080..]);
 }
 
 // The plain bytes of shifted ones.

@@ -1,12 +1,11 @@
--- The three demands, and what their proofs lean on.
+-- The proofs of the three demands, and what they lean on.
 pub mod Demand1
 pub mod Demand2
 pub mod Demand3
-pub mod Numbers
+pub mod DecodingCases
+pub mod AnswerNumbers
 pub mod Shapes
-pub mod Bytes
-pub mod Tables
-pub mod Tops
-pub mod Sound
+pub mod StoredBytes
+pub mod CandidatesTaken
 pub mod Masses
-pub mod Warned
+pub mod WarningTable

@@ -3,20 +3,15 @@ use Prim.Native.Nat.{_-_}
 use mathlib.Core.Path.{_≡_, refl}
 use mathlib.Core.Bool.{Bool, true, false}
 use lib.Dec.{ltb}
-use lib.ListN.{getD}
 use Rattle.answers.specs.Trust.{noGrounds, withGround, groundIf}
 use Rattle.answers.specs.declared.trust.Evidence.{Evidence}
 use Rattle.answers.specs.declared.trust.Evidence.the-variants as evidence
-use Rattle.answers.specs.declared.trust.Grounds.{Grounds}
 use Rattle.votes.specs.declared.Candidate.{Candidate}
 use Rattle.votes.specs.declared.Assessment.{Assessment}
-use Rattle.choice.specs.declared.Group.the-variants.{Others}
-use Rattle.choice.specs.Groups.{group, mostOf}
+use Rattle.groups.specs.declared.Group.the-variants.{Others}
+use Rattle.groups.specs.Groups.{group, mostOf}
 use Rattle.choice.specs.Rules.{groundsOf}
-
--- the last piece of evidence of a table
-abbrev pub lastOf : Grounds → Evidence
-lastOf g = getD (g .items) (g .len - 1) (record { evidence = evidence.Nothing }) .evidence
+use Rattle.demands.specs.Demand2.{lastOf}
 
 last-four : (a b c : Bool) (x y z e : Evidence) → lastOf (withGround (groundIf c (groundIf b (groundIf a noGrounds x) y) z) e) ≡ e
 unfolding withGround

@@ -1,2 +1,4 @@
--- What the demands speak of beside the rules.
-pub mod Edits
+-- The three demands as statements: what is to be believed stands here, and proofs/ has their proofs under the same names.
+pub mod Demand1
+pub mod Demand2
+pub mod Demand3

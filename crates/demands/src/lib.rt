@@ -1,1 +1,1 @@
-// What the rules together guarantee: theorems about the definitions of specs/ alone, in proofs/, a file for each demand. The crate has no code.
+// What the rules together guarantee: three demands, stated in specs/ and proved in proofs/, a file for each. The crate has no code.

@@ -1,22 +1,48 @@
 -- Which lines are frames, by the tests that the code makes. Assumes nothing.
-use Prim.Native.Nat.{ℕ, _+_, _*_, _/_, _≤_, _<_}
-use mathlib.Core.Path.{_≡_, refl, ap, ap₂, _∙_}
+use Prim.Native.Nat.{ℕ, _+_, _*_, _/_, _%_, _≤_, _<_}
+use lib.Seq.{take-all}
+use mathlib.Core.Path.{_≡_, refl, sym, ap, ap₂, _∙_}
 use mathlib.Core.Bool.{Bool, true, false}
 use mathlib.Core.List.{List}
 use native.Mathlib.Omega.{arith}
 use borrow.Author.Tests.{ltb-true, lt-ltb, eqb-true, eq-eqb, le-leb, lt-leb}
 use lib.Dec.{eqb}
-use lib.ListN.{length}
+use lib.ListN.{length, take}
 use Rattle.lists.specs.Cases.{pick}
 use Rattle.lists.specs.Bytes.{byteAt}
-use Rattle.lists.specs.Pieces.{over}
-use Rattle.frame.specs.Digits.{worstOf, allDigits, spelled, hexed, Valued}
-use Rattle.frame.specs.Frames.{anchorCount, isFrame, pageNumber, optionBits, leastCount, goodOf, frameOf, frameIn, frameBytes}
-use Rattle.frame.specs.declared.reading.Frame.{Frame}
+use Rattle.lists.specs.Pieces.{fold, over}
+use Rattle.lists.proofs.Booleans.{and-yes, and-not-both, and-left, and-right}
+use Rattle.lists.proofs.Fold.{fold-more}
+use Rattle.lists.proofs.Over.{front-at, front-take}
+use Rattle.numbers.specs.Numbers.{andByte, bigEndian, eightBytes}
+use Rattle.digits.specs.Digits.{valueAt, valuesOf, valuesInto, worstOf, allDigits, spelled, hexed, pairedInto}
+use Rattle.digits.proofs.Values.{worst-above, values-yes}
+use Rattle.digits.proofs.Spelling.{spelled-at, spelled-length, values-length, values-at, pairs-spell, hexed-length, spelled-hexed, hexed-digits}
+use Rattle.frame.specs.Frames.{leastFrame, frameMost, anchorCount, isFrame, pageNumber, optionBits, leastCount, goodOf, frameOf, frameIn, frameBytes}
 use Rattle.frame.specs.declared.reading.Frame.the-variants.{Good, Nothing}
-use Rattle.frame.proofs.Fill.{front-at, front-take}
-use Rattle.frame.proofs.Values.{and-no, and-yes, and-both, worst-above}
-use Rattle.frame.proofs.Spelling.{spelled-at, spelled-length, hexed-length, spelled-hexed, hexed-digits}
+
+-- the page number by its eight bytes
+big-none : (l : List ℕ) → bigEndian (take 0 l) ≡ 0
+unfolding bigEndian fold
+big-none l = refl
+
+big-more : (l : List ℕ) (i : ℕ) → i < length l → bigEndian (take (i + 1) l) ≡ bigEndian (take i l) * 256 + byteAt l i
+unfolding bigEndian
+big-more l i h = fold-more andByte 0 l i 0 h
+
+pub big-eight : (l : List ℕ) → 8 ≤ length l
+    → eightBytes (byteAt l 7) (byteAt l 6) (byteAt l 5) (byteAt l 4) (byteAt l 3) (byteAt l 2) (byteAt l 1) (byteAt l 0) ≡ bigEndian (take 8 l)
+big-eight l h =
+    let e0 = big-none l in
+    let e1 = big-more l 0 (omega arith) in
+    let e2 = big-more l 1 (omega arith) in
+    let e3 = big-more l 2 (omega arith) in
+    let e4 = big-more l 3 (omega arith) in
+    let e5 = big-more l 4 (omega arith) in
+    let e6 = big-more l 5 (omega arith) in
+    let e7 = big-more l 6 (omega arith) in
+    let e8 = big-more l 7 (omega arith) in
+    omega arith
 
 module _ (line : List ℕ) where
   -- n is a byte
@@ -24,37 +50,33 @@ module _ (line : List ℕ) where
   count-byte h k =
       omega (arith, spelled-at line 10 (omega arith), worst-above line 20 h (omega arith), worst-above line 21 h (omega arith))
 
-  -- and the values at its digits make it
-  pub count-of : (values : List ℕ) → 22 ≤ length line → Valued line values (length line) → byteAt values 20 * 16 + byteAt values 21 ≡ anchorCount line
-  count-of values k w = omega (arith, spelled-at line 10 (omega arith), w .at 20 (omega arith), w .at 21 (omega arith))
-
-  no-frame : (worstOf line < 16 → length line ≡ 8214 + 2 * anchorCount line → ⊥) → isFrame line ≡ false
+  no-frame : (worstOf line < 16 → length line ≡ 2 * (leastFrame + anchorCount line) → ⊥) → isFrame line ≡ false
   unfolding isFrame
-  no-frame f = and-no (allDigits line) (eqb (length line) (8214 + 2 * anchorCount line)) (λ p q. f (ltb-true (worstOf line) 16 p) (eqb-true _ _ q))
+  no-frame f = and-not-both (allDigits line) (eqb (length line) (2 * (leastFrame + anchorCount line))) (λ p q. f (ltb-true (worstOf line) 16 p) (eqb-true _ _ q))
 
-  pub frame-short : length line < 8214 → isFrame line ≡ false
+  pub frame-short : length line < 2 * leastFrame → isFrame line ≡ false
   frame-short h = no-frame (λ p q. omega arith)
 
-  pub frame-long : 8724 < length line → isFrame line ≡ false
+  pub frame-long : 2 * frameMost < length line → isFrame line ≡ false
   frame-long h = no-frame (λ p q. omega (arith, count-byte p (omega arith)))
 
   pub frame-digits : 16 ≤ worstOf line → isFrame line ≡ false
   frame-digits h = no-frame (λ p q. omega arith)
 
-  pub frame-count : (length line ≡ 8214 + 2 * anchorCount line → ⊥) → isFrame line ≡ false
+  pub frame-count : (length line ≡ 2 * (leastFrame + anchorCount line) → ⊥) → isFrame line ≡ false
   frame-count h = no-frame (λ p q. h q)
 
-  pub frame-yes : worstOf line < 16 → length line ≡ 8214 + 2 * anchorCount line → isFrame line ≡ true
+  pub frame-yes : worstOf line < 16 → length line ≡ 2 * (leastFrame + anchorCount line) → isFrame line ≡ true
   unfolding isFrame
-  frame-yes h e = and-yes (allDigits line) (eqb (length line) (8214 + 2 * anchorCount line)) (lt-ltb (worstOf line) 16 h) (eq-eqb _ _ e)
+  frame-yes h e = and-yes (allDigits line) (eqb (length line) (2 * (leastFrame + anchorCount line))) (lt-ltb (worstOf line) 16 h) (eq-eqb _ _ e)
 
-  frame-facts : isFrame line ≡ true → (worstOf line < 16) × (length line ≡ 8214 + 2 * anchorCount line)
+  frame-facts : isFrame line ≡ true → (worstOf line < 16) × (length line ≡ 2 * (leastFrame + anchorCount line))
   unfolding isFrame
   frame-facts e =
-      let b = and-both (allDigits line) (eqb (length line) (8214 + 2 * anchorCount line)) e in
-      (ltb-true (worstOf line) 16 (b .0), eqb-true _ _ (b .1))
+      let b = eqb (length line) (2 * (leastFrame + anchorCount line)) in
+      (ltb-true (worstOf line) 16 (and-left (allDigits line) b e), eqb-true _ _ (and-right (allDigits line) b e))
 
-  pub frame-bytes : isFrame line ≡ true → length (spelled line) ≡ 4107 + anchorCount line
+  pub frame-bytes : isFrame line ≡ true → length (spelled line) ≡ leastFrame + anchorCount line
   frame-bytes e = spelled-length line ∙ omega (arith, frame-facts e .1)
 
   pub frame-small : isFrame line ≡ true → anchorCount line < 256
@@ -65,34 +87,56 @@ module _ (line : List ℕ) where
   unfolding frameOf
   answer-no e = rw e
 
-  pub answer-yes : (bytes : List ℕ) → worstOf line < 16 → length line ≡ 8214 + 2 * anchorCount line
+  pub answer-yes : (bytes : List ℕ) → worstOf line < 16 → length line ≡ 2 * (leastFrame + anchorCount line)
       → goodOf (over bytes 0 (spelled line)) (anchorCount line) ≡ frameOf line
   unfolding frameOf
   answer-yes bytes h e =
       let n : length (spelled line) ≡ length line / 2 = spelled-length line in
       rw (frame-yes h e)
-      (rw (front-take bytes (spelled line) 8 (omega arith), front-at bytes (spelled line) 8 (omega arith), front-at bytes (spelled line) 9 (omega arith)))
+      (rw (front-take bytes (spelled line) 8 (omega arith), front-at bytes (spelled line) 0 8 (omega arith), front-at bytes (spelled line) 0 9 (omega arith)))
 
-  pub small : (m : ℕ) → m < 4362 → Nothing ≡ frameIn m line
+  pub small : (m : ℕ) → m < frameMost → Nothing ≡ frameIn m line
   unfolding frameIn
-  small m h = rw (lt-leb 4362 m h)
+  small m h = rw (lt-leb frameMost m h)
 
-  pub large : (m : ℕ) → 4362 ≤ m → frameOf line ≡ frameIn m line
+  pub large : (m : ℕ) → frameMost ≤ m → frameOf line ≡ frameIn m line
   unfolding frameIn
-  large m h = rw (le-leb 4362 m h)
+  large m h = rw (le-leb frameMost m h)
 
   module _ (bytes : List ℕ) where
-    pub bytes-small : length bytes < 4362 → bytes ≡ frameBytes line bytes
+    pub bytes-small : length bytes < frameMost → bytes ≡ frameBytes line bytes
     unfolding frameBytes
-    bytes-small h = rw (lt-leb 4362 (length bytes) h)
+    bytes-small h = rw (lt-leb frameMost (length bytes) h)
 
-    pub bytes-no : 4362 ≤ length bytes → isFrame line ≡ false → bytes ≡ frameBytes line bytes
+    pub bytes-no : frameMost ≤ length bytes → isFrame line ≡ false → bytes ≡ frameBytes line bytes
     unfolding frameBytes
-    bytes-no h e = rw (le-leb 4362 (length bytes) h, e)
+    bytes-no h e = rw (le-leb frameMost (length bytes) h, e)
 
-    pub bytes-yes : 4362 ≤ length bytes → isFrame line ≡ true → over bytes 0 (spelled line) ≡ frameBytes line bytes
+    pub bytes-yes : frameMost ≤ length bytes → isFrame line ≡ true → over bytes 0 (spelled line) ≡ frameBytes line bytes
     unfolding frameBytes
-    bytes-yes h e = rw (le-leb 4362 (length bytes) h, e)
+    bytes-yes h e = rw (le-leb frameMost (length bytes) h, e)
+
+-- a line that is no frame, where a frame would fit
+pub not-read : (line bytes : List ℕ) → frameMost ≤ length bytes → isFrame line ≡ false → (Nothing ≡ frameIn (length bytes) line) × (bytes ≡ frameBytes line bytes)
+not-read line bytes h e = (answer-no line e ∙ large line (length bytes) h, bytes-no line bytes h e)
+
+-- the values of the line's characters, at the front of a buffer: n, and the bytes that they spell
+module _ (line room values : List ℕ) (h : length line ≤ length room) (e : values ≡ valuesInto line room) (w : worstOf line < 16) where
+  values-are : values ≡ over room 0 (valuesOf line)
+  values-are = e ∙ sym (values-yes line room h .1)
+
+  value-is : (k : ℕ) → k < length line → byteAt values k ≡ valueAt line k
+  value-is k b = ap (λ (l : List ℕ). byteAt l k) values-are ∙ front-at room (valuesOf line) 0 k (omega (arith, values-length line)) ∙ values-at line k b
+
+  pub count-of : 22 ≤ length line → (byteAt values 20 * 16 + byteAt values 21) % 256 ≡ anchorCount line
+  count-of k = omega (arith, spelled-at line 10 (omega arith), value-is 20 (omega arith), value-is 21 (omega arith), worst-above line 20 w (omega arith), worst-above line 21 w (omega arith))
+
+  pub pairs-of : (m : ℕ) (bytes : List ℕ) → m ≡ length line → length line / 2 ≤ length bytes → pairedInto (take m values) bytes ≡ over bytes 0 (spelled line)
+  pairs-of m bytes f b =
+      let n : length (valuesOf line) ≡ length line = values-length line in
+      let all : take m values ≡ valuesOf line =
+      ap (take m) values-are ∙ front-take room (valuesOf line) m (omega arith) ∙ take-all m (valuesOf line) (omega arith) in
+      ap (λ (l : List ℕ). pairedInto l bytes) all ∙ pairs-spell line w bytes b
 
 -- from the answer back to the line
 nothing-no : (b : Bool) (p o t n : ℕ) → pick b (Good p o t n) Nothing ≡ Nothing → b ≡ false
@@ -106,7 +150,7 @@ frame-nothing line e = nothing-no (isFrame line) _ _ _ _ e
 -- the fields that a frame was answered with are those of its bytes
 pub record Fields (line : List ℕ) (p o t n : ℕ) : Type 0 where
   pub frame : isFrame line ≡ true
-  pub page : p ≡ pageNumber (spelled line)
+  pub number : p ≡ pageNumber (spelled line)
   pub options : o ≡ optionBits (spelled line)
   pub least : t ≡ leastCount (spelled line)
   pub anchors : n ≡ anchorCount line
@@ -120,10 +164,10 @@ pub frame-good : (line : List ℕ) (p o t n : ℕ) → frameOf line ≡ Good p o
 unfolding frameOf
 frame-good line p o t n e =
     let f = good-fields (isFrame line) p o t n _ _ _ _ e in
-    record { frame = f .0; page = f .1; options = f .2; least = f .3; anchors = f .4 }
+    record { frame = f .0; number = f .1; options = f .2; least = f .3; anchors = f .4 }
 
 -- The bytes of a frame, written as hexadecimal, are read back: eleven bytes, as many anchors as the last of them says, and 4,096.
-pub frame-hexed : (bytes : List ℕ) → ((k : ℕ) → k < length bytes → byteAt bytes k < 256) → length bytes ≡ 4107 + byteAt bytes 10
+pub frame-hexed : (bytes : List ℕ) → ((k : ℕ) → k < length bytes → byteAt bytes k < 256) → length bytes ≡ leastFrame + byteAt bytes 10
     → frameOf (hexed bytes) ≡ goodOf bytes (byteAt bytes 10)
 unfolding frameOf
 frame-hexed bytes b h =

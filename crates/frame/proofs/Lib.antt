@@ -1,9 +1,2 @@
--- Laws of the words of specs/, by subject.
-pub mod Fill
-pub mod Values
-pub mod Spelling
-pub mod Numbers
+-- Laws of frames.
 pub mod Frames
-pub mod Ends
-pub mod Reports
-pub mod Replies

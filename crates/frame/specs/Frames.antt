@@ -8,18 +8,31 @@ use lib.ListN.{length, take, drop}
 use Rattle.lists.specs.Cases.{pick}
 use Rattle.lists.specs.Bytes.{byteAt}
 use Rattle.lists.specs.Pieces.{over}
-use Rattle.frame.specs.Digits.{allDigits, spelled}
-use Rattle.frame.specs.Numbers.{bigEndian}
+use Rattle.digits.specs.Digits.{allDigits, spelled}
+use Rattle.numbers.specs.Numbers.{bigEndian}
 use Rattle.frame.specs.declared.reading.Frame.{Frame}
 use Rattle.frame.specs.declared.reading.Frame.the-variants.{Good, Nothing}
+
+-- the bytes before the anchors, those of a frame with none and with 255, and the characters of a line that tell whether it is one
+abbrev pub headSize : ℕ
+headSize = 11
+
+abbrev pub leastFrame : ℕ
+leastFrame = headSize + 4096
+
+abbrev pub frameMost : ℕ
+frameMost = leastFrame + 255
+
+abbrev pub lineRoom : ℕ
+lineRoom = frameMost + frameMost + 1
 
 -- n, the eleventh byte
 abbrev pub anchorCount : List ℕ → ℕ
 anchorCount line = byteAt (spelled line) 10
 
--- digits alone, two for each of 11 + n + 4,096 bytes; "anything else is line 11"
+-- digits alone, two for each of 11 + n + 4,096 bytes: "anything else is line 11"
 unfoldable pub isFrame : List ℕ → Bool
-isFrame line = allDigits line && eqb (length line) (8214 + 2 * anchorCount line)
+isFrame line = allDigits line && eqb (length line) (2 * (leastFrame + anchorCount line))
 
 -- the parts of a frame's bytes
 abbrev pub pageNumber : List ℕ → ℕ
@@ -32,10 +45,10 @@ abbrev pub leastCount : List ℕ → ℕ
 leastCount bytes = byteAt bytes 9
 
 abbrev pub anchorsOf : ℕ → List ℕ → List ℕ
-anchorsOf n bytes = take n (drop 11 bytes)
+anchorsOf n bytes = take n (drop headSize bytes)
 
 abbrev pub storedOf : ℕ → List ℕ → List ℕ
-storedOf n bytes = take 4096 (drop (11 + n) bytes)
+storedOf n bytes = take 4096 (drop (headSize + n) bytes)
 
 abbrev pub goodOf : List ℕ → ℕ → Frame
 goodOf bytes n = Good (pageNumber bytes) (optionBits bytes) (leastCount bytes) n
@@ -45,8 +58,8 @@ frameOf line = pick (isFrame line) (goodOf (spelled line) (anchorCount line)) No
 
 -- what `read_frame` answers with a buffer of m bytes: one that the longest frame does not fit takes none
 unfoldable pub frameIn : ℕ → List ℕ → Frame
-frameIn m line = pick (leb 4362 m) (frameOf line) Nothing
+frameIn m line = pick (leb frameMost m) (frameOf line) Nothing
 
 -- and what the buffer holds then: a frame's bytes at its front; otherwise what it held
 unfoldable pub frameBytes : List ℕ → List ℕ → List ℕ
-frameBytes line bytes = pick (leb 4362 (length bytes)) (pick (isFrame line) (over bytes 0 (spelled line)) bytes) bytes
+frameBytes line bytes = pick (leb frameMost (length bytes)) (pick (isFrame line) (over bytes 0 (spelled line)) bytes) bytes

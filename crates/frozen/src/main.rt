@@ -9,10 +9,14 @@
 // An answer is a line: the layout of include/lumeviqo.h in hexadecimal, then the CRC-32 of each buffer that the function may write to.
 // stdin and stdout were made beside the original, by compare/driver/src/bin/freeze.rs; the program needs no original.
 use answers::Answer;
+use layout::SCAN_SIZE;
 use libc::STDIN_FILENO;
 use libc::STDOUT_FILENO;
+use parts::ANSWER_SIZE;
+use row_layout::PARSE_SIZE;
 ghost use lib.ListN.{length};
 ghost use mathlib.Core.Path.{_≡_};
+ghost use Rattle.row_layout.specs.RowLayouts.{parseSize};
 
 struct Question {
     number: u64,
@@ -85,9 +89,15 @@ fn ask(head: &[u8], page: &mut [u8], anchors: &[u8], bytes: &[u8]) {
 
 fn question_in(head: &[u8]) -> Question {
     Question {
-        number: long(
-            quad(short(head, 1), short(head, 3)),
-            quad(short(head, 5), short(head, 7)),
+        number: numbers::eight(
+            at(head, 1),
+            at(head, 2),
+            at(head, 3),
+            at(head, 4),
+            at(head, 5),
+            at(head, 6),
+            at(head, 7),
+            at(head, 8),
         ),
         leniency: at(head, 9),
         t: at(head, 10),
@@ -105,19 +115,7 @@ fn short(b: &[u8], k: usize) -> u16 {
     if b.len() <= k {
         return 0;
     }
-    pair(at(b, k), at(b, k + 1))
-}
-
-fn pair(low: u8, high: u8) -> u16 {
-    (low as u16) + 256 * (high as u16)
-}
-
-fn quad(low: u16, high: u16) -> u32 {
-    (low as u32) + 65536 * (high as u32)
-}
-
-fn long(low: u32, high: u32) -> u64 {
-    (low as u64) + 4294967296 * (high as u64)
+    numbers::pair(at(b, k), at(b, k + 1))
 }
 
 fn answer(asked: u8, q: Question, page: &mut [u8], anchors: &[u8], bytes: &[u8]) {
@@ -141,27 +139,27 @@ fn answer(asked: u8, q: Question, page: &mut [u8], anchors: &[u8], bytes: &[u8])
 }
 
 fn trailer(page: &[u8]) {
-    let mut answer = [0u8; 53];
-    capi::lumeviqo_trailer(page, &mut answer);
-    hex(&answer);
+    let mut answer = answer_room();
+    let n = lumeviqo::lumeviqo_trailer(page, &mut answer);
+    tell(&answer, n);
 }
 
 fn integrity(number: u64, page: &[u8]) {
-    let mut answer = [0u8; 40];
-    capi::lumeviqo_integrity(number, page, &mut answer);
-    hex(&answer);
+    let mut answer = answer_room();
+    let n = lumeviqo::lumeviqo_integrity(number, page, &mut answer);
+    tell(&answer, n);
 }
 
 fn superblock(page: &[u8]) {
-    let mut answer = [0u8; 63];
-    capi::lumeviqo_superblock(page, &mut answer);
-    hex(&answer);
+    let mut answer = answer_room();
+    let n = lumeviqo::lumeviqo_superblock(page, &mut answer);
+    tell(&answer, n);
 }
 
 fn checked_superblock(page: &[u8]) {
-    let mut answer = [0u8; 63];
-    capi::lumeviqo_superblock_checked(page, &mut answer);
-    hex(&answer);
+    let mut answer = answer_room();
+    let n = lumeviqo::lumeviqo_superblock_checked(page, &mut answer);
+    tell(&answer, n);
 }
 
 fn scan(q: Question, page: &[u8]) {
@@ -170,46 +168,54 @@ fn scan(q: Question, page: &[u8]) {
 }
 
 fn scan_to(q: Question, page: &[u8], shifted: &mut [u8]) {
-    let mut answer = [0u8; 88];
-    let n = io::count(q.room as isize, shifted);
-    capi::lumeviqo_scan(q.number, page, &mut shifted[..n], &mut answer);
-    hex(&answer);
+    let mut answer = answer_room();
+    let room = io::count(q.room as isize, shifted);
+    let n = lumeviqo::lumeviqo_scan(q.number, page, &mut shifted[..room], &mut answer);
+    tell(&answer, n);
     crc_of(shifted, q.room);
 }
 
 // A scan, the replacement, and the decoding from the summary as it then stands.
 fn replacement(q: Question, page: &mut [u8], anchors: &[u8], bytes: &[u8]) {
-    let mut scanned = [0u8; 88];
     let mut shifted = shifted_room();
-    capi::lumeviqo_scan(q.number, page, &mut shifted, &mut scanned);
-    let mut replaced = [0u8; 88];
-    capi::lumeviqo_replace(
+    replace_in(q, page, &mut shifted, anchors, bytes);
+}
+
+fn replace_in(q: Question, page: &mut [u8], shifted: &mut [u8], anchors: &[u8], bytes: &[u8]) {
+    let mut scanned = answer_room();
+    let mut replaced = answer_room();
+    lumeviqo::lumeviqo_scan(q.number, page, shifted, &mut scanned);
+    let n = lumeviqo::lumeviqo_replace(
         q.number,
         page,
-        &mut shifted,
-        &scanned[40..88],
+        shifted,
+        &scanned[ANSWER_SIZE..SCAN_SIZE],
         q.place as usize,
         bytes,
         &mut replaced,
     );
-    hex(&replaced);
+    tell(&replaced, n);
     crc(page);
-    crc(&shifted);
-    let mut answer = decoding_room();
+    crc(shifted);
+    text(b" ");
+    decode_summary(q, page, &replaced[ANSWER_SIZE..SCAN_SIZE], shifted, anchors);
+}
+
+fn decode_summary(q: Question, page: &[u8], fits: &[u8], shifted: &[u8], anchors: &[u8]) {
+    let mut answer = answer_room();
     let mut out = io::buffer();
-    capi::lumeviqo_decode_summary(
+    let n = lumeviqo::lumeviqo_decode_summary(
         q.number,
         page,
-        &replaced[40..88],
-        &shifted,
+        fits,
+        shifted,
         anchors,
         q.leniency,
         q.t,
         &mut out,
         &mut answer,
     );
-    text(b" ");
-    hex(&answer);
+    tell(&answer, n);
     crc(&out);
 }
 
@@ -219,57 +225,66 @@ fn decoding(q: Question, page: &[u8], anchors: &[u8]) {
 }
 
 fn decode_to(q: Question, page: &[u8], anchors: &[u8], out: &mut [u8]) {
-    let mut answer = decoding_room();
-    let n = io::count(q.room as isize, out);
-    capi::lumeviqo_decode(
+    let mut answer = answer_room();
+    let room = io::count(q.room as isize, out);
+    let n = lumeviqo::lumeviqo_decode(
         q.number,
         page,
         anchors,
         q.leniency,
         q.t,
-        &mut out[..n],
+        &mut out[..room],
         &mut answer,
     );
-    hex(&answer);
+    tell(&answer, n);
     crc_of(out, q.room);
 }
 
 fn supplied(q: Question, page: &[u8]) {
-    let mut answer = decoding_room();
+    let mut answer = answer_room();
     let mut out = io::buffer();
-    capi::lumeviqo_decode_supplied(q.number, page, q.bv, q.leniency, q.t, &mut out, &mut answer);
-    hex(&answer);
+    let n = lumeviqo::lumeviqo_decode_supplied(
+        q.number,
+        page,
+        q.bv,
+        q.leniency,
+        q.t,
+        &mut out,
+        &mut answer,
+    );
+    tell(&answer, n);
     crc(&out);
 }
 
 fn parse(q: Question, plain: &[u8]) {
-    let mut answer = parse_room();
-    capi::lumeviqo_parse(q.number, plain, q.leniency, &mut answer);
-    hex(&answer);
+    let mut answer = answer_room();
+    let n = lumeviqo::lumeviqo_parse(q.number, plain, q.leniency, &mut answer);
+    tell(&answer, n);
 }
 
 fn row_count(q: Question, plain: &[u8]) {
-    let mut answer = [0u8; 42];
-    capi::lumeviqo_row_count(q.number, plain, q.leniency, &mut answer);
-    hex(&answer);
+    let mut answer = answer_room();
+    let n = lumeviqo::lumeviqo_row_count(q.number, plain, q.leniency, &mut answer);
+    tell(&answer, n);
 }
 
 fn row(q: Question, plain: &[u8]) {
-    let mut answer = [0u8; 44];
-    capi::lumeviqo_row(q.number, plain, q.leniency, q.place as usize, &mut answer);
-    hex(&answer);
+    let mut answer = answer_room();
+    let n = lumeviqo::lumeviqo_row(q.number, plain, q.leniency, q.place as usize, &mut answer);
+    tell(&answer, n);
 }
 
 fn rows(q: Question, plain: &[u8]) {
-    let mut answer = rows_room();
-    capi::lumeviqo_rows(q.number, plain, q.leniency, &mut answer);
-    hex(&answer);
+    let mut answer = answer_room();
+    let n = lumeviqo::lumeviqo_rows(q.number, plain, q.leniency, &mut answer);
+    tell(&answer, n);
 }
 
 // No page has more than eight candidates: what that answer would look like.
 fn too_many(number: u64) {
-    let answer = layout::answer_bytes(Answer::TooManyCandidates(number));
-    hex(&answer);
+    let mut answer = answer_room();
+    let n = layout::write_integrity(&mut answer, Answer::TooManyCandidates(number));
+    tell(&answer, n);
 }
 
 // Zeros. The contracts give the lengths alone.
@@ -279,22 +294,17 @@ fn shifted_room() -> [u8; 4080]
     [0; 4080]
 }
 
-fn decoding_room() -> [u8; 452]
-    ensures { λ r. ⌜ 452 ≡ length r ⌝ }
+// Room for the longest layout, a parse.
+fn answer_room() -> [u8; PARSE_SIZE]
+    ensures { λ r. ⌜ parseSize ≡ length r ⌝ }
 {
-    [0; 452]
+    [0; PARSE_SIZE]
 }
 
-fn rows_room() -> [u8; 810]
-    ensures { λ r. ⌜ 810 ≡ length r ⌝ }
-{
-    [0; 810]
-}
-
-fn parse_room() -> [u8; 919]
-    ensures { λ r. ⌜ 919 ≡ length r ⌝ }
-{
-    [0; 919]
+// What a call wrote.
+fn tell(answer: &[u8], n: usize) {
+    let n = io::count((n % 65536) as isize, answer);
+    hex(&answer[..n]);
 }
 
 // The CRC of the first n bytes.
@@ -305,12 +315,12 @@ fn crc_of(bytes: &[u8], n: u16) {
 
 fn crc(bytes: &[u8]) {
     text(b" ");
-    io::print_hex(STDOUT_FILENO, capi::lumeviqo_crc32(bytes) as u64, 8);
+    io::print_hex(STDOUT_FILENO, lumeviqo::lumeviqo_crc32(bytes) as u64, 8);
 }
 
 fn hex(bytes: &[u8]) {
     let mut digits = io::buffer();
-    let n = frame::write_hex(bytes, &mut digits);
+    let n = digits::write_hex(bytes, &mut digits);
     let n = io::count((n % 65536) as isize, &digits);
     text(&digits[..n]);
 }

@@ -1,13 +1,14 @@
 // Pages whose answers are known: document 01's page with four rows, and one for each of the answers 1, 8 to 12 and 16, strictly and
 // leniently. What they must give was written down by the original, from the same pages (compare/driver/src/bin/known.rs).
 use answers::Answer;
-use answers::Leniency;
+use answers::Options;
 use answers::ParseWarnings;
+use answers::Values;
 use answers::WarningKind;
 use libc::STDIN_FILENO;
 use libc::STDOUT_FILENO;
+use rows::Span;
 use slotted::Declared;
-use slotted::Span;
 
 fn text(s: &[u8]) {
     io::write_all(STDOUT_FILENO, s);
@@ -32,44 +33,27 @@ fn put(page: &mut [u8], at: usize, low: u8, high: u8) {
 
 fn answer(a: Answer) {
     number(a.number() as u64);
-    match a {
-        Answer::WrongPageLength(n) => number(n as u64),
-        Answer::NoSlotDirectory { page, reason } => {
-            number(page);
-            number(reason.number() as u64);
-        }
-        Answer::UnknownPrelude(page) => number(page),
-        Answer::SlotDirectoryTruncated {
-            page,
-            found,
-            expected,
-            stop,
-        } => {
-            number(page);
-            number(found as u64);
-            number(expected as u64);
-            number(stop as u64);
-        }
-        Answer::AmbiguousSlotDirectory(page) => number(page),
-        Answer::SlotOffsetInDirectory { page, offset, end } => {
-            number(page);
-            number(offset as u64);
-            number(end as u64);
-        }
-        Answer::NoSuchRow(r) => number(r as u64),
-        _ => {}
-    }
+    values(a.values());
 }
 
 fn warning(kind: WarningKind) {
     number(kind.number() as u64);
-    match kind {
-        WarningKind::SlotDirectoryTruncated { found, expected } => {
-            number(found as u64);
-            number(expected as u64);
-        }
-        WarningKind::SlotOffsetsInDirectory { dropped } => number(dropped as u64),
-        _ => {}
+    values(kind.values());
+}
+
+// As many of the four as there are.
+fn values(v: Values) {
+    if 0 < v.count {
+        number(v.first);
+    }
+    if 1 < v.count {
+        number(v.second);
+    }
+    if 2 < v.count {
+        number(v.third);
+    }
+    if 3 < v.count {
+        number(v.fourth);
     }
 }
 
@@ -83,8 +67,8 @@ fn declared(how: Declared) {
 // The parse, then the rows.
 fn show(name: &[u8], plain: &[u8], bits: u8) {
     text(name);
-    let leniency = Leniency::new(bits);
-    let parsed = slotted::parse(7, plain, leniency);
+    let options = Options::new(bits, Options::MIN_TRAILER_COUNT);
+    let parsed = slotted::parse(7, plain, options);
     let a = parsed.answer;
     answer(a);
     if parsed.found {
@@ -102,7 +86,7 @@ fn show(name: &[u8], plain: &[u8], bits: u8) {
     nth_warning(warnings, 1);
     nth_warning(warnings, 2);
     text(b" rows");
-    rows(plain, leniency);
+    list(plain, options);
     text(b"\n");
 }
 
@@ -119,19 +103,20 @@ fn nth_warning(warnings: ParseWarnings, i: usize) {
     warning(kind);
 }
 
-fn rows(plain: &[u8], leniency: Leniency) {
-    let count = slotted::row_count(plain, leniency);
+// Each row's offset and length, then what asking for one more answers.
+fn list(plain: &[u8], options: Options) {
+    let count = rows::row_count(plain, options);
     let mut r: usize = 0;
     while r < count {
-        match slotted::row_span(plain, leniency, r) {
+        match rows::row_span(plain, options, r) {
             Span::At { offset, end: _ } => number(offset as u64),
             Span::NoRow => text(b" none"),
         }
-        number(slotted::row_bytes(plain, leniency, r).len() as u64);
+        number(rows::row_bytes(plain, options, r).len() as u64);
         r += 1;
     }
     text(b" then");
-    answer(slotted::row_answer(7, plain, leniency, count));
+    answer(rows::row_answer(7, plain, options, count));
 }
 
 fn both(name: &[u8], plain: &[u8]) {

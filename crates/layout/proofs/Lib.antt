@@ -1,2 +1,2 @@
--- Laws of the pieces.
-pub mod Made
+-- Laws of the layouts.
+pub mod Sizes

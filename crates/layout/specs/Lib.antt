@@ -1,5 +1,2 @@
--- The byte layouts of include/lumeviqo.h.
-pub mod Numbers
-pub mod Places
-pub mod Parts
+-- The layouts of include/lumeviqo.h for a stored page.
 pub mod Layouts

@@ -1,22 +1,19 @@
-// Answers and what they are made of as bytes, in the layouts of include/lumeviqo.h: each piece as a small array, with no buffer yet. The Rust has no
-// such part. Numbers are little-endian; a place that an answer does not use is zero.
-mod directories;
-mod fields;
-mod numbers;
-mod parts;
-mod values;
+// The layouts of include/lumeviqo.h for a stored page: each whole answer, written at the front of a lent buffer. A writer returns how many bytes it wrote; a
+// buffer that has no room for the layout stays as it is, with 0. What stands behind the layout stays. The Rust has no such part.
+mod decodings;
+mod pages;
+mod summaries;
 
-pub use directories::directory_bytes;
-pub use directories::span_end;
-pub use directories::span_start;
-pub use fields::bvs_bytes;
-pub use fields::field_bytes;
-pub use fields::head_bytes;
-pub use fields::low;
-pub use fields::record_bytes;
-pub use numbers::pair_bytes;
-pub use numbers::short_bytes;
-pub use parts::answer_bytes;
-pub use parts::fit_bytes;
-pub use parts::ground_bytes;
-pub use parts::warning_bytes;
+pub use decodings::DECODING_SIZE;
+pub use decodings::write_decoding;
+pub use pages::SUPERBLOCK_SIZE;
+pub use pages::TRAILER_SIZE;
+pub use pages::write_integrity;
+pub use pages::write_superblock;
+pub use pages::write_trailer;
+pub use summaries::SCAN_SIZE;
+pub use summaries::write_replacement;
+pub use summaries::write_scan;
+
+// The version of the layouts: any change of one is a change of this.
+pub const LAYOUT_VERSION: u32 = 1;

@@ -1,11 +1,14 @@
 -- Laws of `&&`, `||` and `not`, by what is known of a part and what is known of the whole. Assumes nothing.
-use mathlib.Core.Path.{_≡_, refl}
-use mathlib.Core.Bool.{Bool, true, false, _&&_, _||_}
+use mathlib.Core.Path.{_≡_, refl, sym, ap, _∙_}
+use mathlib.Core.Bool.{Bool, true, false, _&&_, _||_, not, Bool·not-not}
 use Rattle.lists.proofs.Picks.{never-both}
 
 pub not-true : (b : Bool) → (b ≡ true → ⊥) → b ≡ false
 not-true true f = absurd (f refl)
 not-true false f = refl
+
+pub not-back : {b t : Bool} → not b ≡ t → b ≡ not t
+not-back {b} e = sym (Bool·not-not b) ∙ ap not e
 
 -- ---- from the parts to the whole
 
@@ -23,6 +26,10 @@ pub and-not-both : (a b : Bool) → (a ≡ true → b ≡ true → ⊥) → (a &
 and-not-both true true f = absurd (f refl refl)
 and-not-both true false f = refl
 and-not-both false b f = refl
+
+pub or-yes-right : (a b : Bool) → b ≡ true → (a || b) ≡ true
+or-yes-right true b e = refl
+or-yes-right false b e = e
 
 pub or-nothing : (b : Bool) → (b || false) ≡ b
 or-nothing true = refl

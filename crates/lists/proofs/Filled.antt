@@ -6,7 +6,8 @@ use native.Mathlib.Numerals.{add-one}
 use native.Mathlib.Omega.{arith}
 use lib.ListN.{length, getD, set, take, drop, length-take, length-drop, drop-of-length-le}
 use lib.Seq.{take-suc, take-suc-set, take-all, take-at, length-take-le}
-use Rattle.lists.specs.Pieces.{over}
+use Rattle.lists.specs.Pieces.{each, over}
+use Rattle.lists.proofs.Each.{each-length, each-more}
 use Rattle.lists.proofs.Over.{over-length, over-none, over-push}
 
 -- ---- the first i places hold what they should
@@ -43,6 +44,16 @@ pub front-more : {A : Type 0} (l src : List A) (d : A) (i : ℕ) → i < length 
 front-more l src d i h k =
     let e : 0 + i ≡ i = omega arith in
     ap (λ (n : ℕ). set (over l 0 (take i src)) n (getD src i d)) (sym e) ∙ fill-more l src 0 d i (omega arith) k
+
+-- f 0, f 1 and so on, from the front on
+pub each-put : (f : ℕ → ℕ) (l : List ℕ) (i x : ℕ) → i < length l → x ≡ f i → set (over l 0 (each f i)) i x ≡ over l 0 (each f (i + 1))
+each-put f l i x h e =
+    over-push l 0 (each f i) i x (omega (arith, each-length f i)) h
+    ∙ ap (over l 0) (ap (λ (v : ℕ). each f i ++ (v ∷ [])) e ∙ sym (each-more f i))
+
+pub each-start : (f : ℕ → ℕ) (l : List ℕ) → l ≡ over l 0 (each f 0)
+unfolding each
+each-start f l = sym (over-none l 0)
 
 -- ---- two lists that take up all of a buffer
 

@@ -39,6 +39,10 @@ pub little-one : (n : ℕ) → n < 256 → littleBytes 1 n ≡ n ∷ []
 unfolding littleBytes
 little-one n h = ap (λ (b : ℕ). b ∷ []) (omega arith)
 
+pub little-low : (n : ℕ) → littleBytes 1 (n % 256) ≡ littleBytes 1 n
+unfolding littleBytes
+little-low n = ap (λ (b : ℕ). b ∷ []) (omega arith)
+
 -- two, four and eight bytes
 pub two-little : (a b : ℕ) → littleEndian (a ∷ b ∷ []) ≡ twoBytes a b
 unfolding littleEndian

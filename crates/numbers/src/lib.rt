@@ -10,6 +10,8 @@ pub use puts::put_big_u16;
 pub use puts::put_big_u64;
 pub use puts::put_bool;
 pub use puts::put_low16;
+pub use puts::put_size8;
+pub use puts::put_size16;
 pub use puts::put_u8;
 pub use puts::put_u16;
 pub use puts::put_u32;

@@ -4,7 +4,9 @@ ghost use Rattle.lists.specs.Cases.{flag};
 ghost use Rattle.numbers.specs.Numbers.{littleBytes, bigBytes};
 ghost use Rattle.numbers.specs.Writes.{Wrote};
 use crate::values::bit;
+use crate::values::long;
 use crate::values::long16;
+use crate::values::low;
 
 pub fn put_u8(out: &mut [u8], at: usize, n: u8) -> usize
     ensures { λ r. ⌜ Wrote (now (out .entry)) at (littleBytes 1 n) (now (out .exit)) r ⌝ }
@@ -31,7 +33,20 @@ pub fn put_u16(out: &mut [u8], at: usize, n: u16) -> usize
     put_low16(out, at, long16(n))
 }
 
-// The last two bytes of a number: those of a place in a page are no more.
+// The last byte of a size, and its last two: a table's length needs no more, nor a place in a page.
+pub fn put_size8(out: &mut [u8], at: usize, n: usize) -> usize
+    ensures { λ r. ⌜ Wrote (now (out .entry)) at (littleBytes 1 n) (now (out .exit)) r ⌝ }
+{
+    put_u8(out, at, low(n))
+}
+
+pub fn put_size16(out: &mut [u8], at: usize, n: usize) -> usize
+    ensures { λ r. ⌜ Wrote (now (out .entry)) at (littleBytes 2 n) (now (out .exit)) r ⌝ }
+{
+    put_low16(out, at, long(n))
+}
+
+// The last two bytes of a number.
 pub fn put_low16(out: &mut [u8], at: usize, n: u64) -> usize
     ensures { λ r. ⌜ Wrote (now (out .entry)) at (littleBytes 2 n) (now (out .exit)) r ⌝ }
 {

@@ -15,7 +15,6 @@ use Rattle.lists.specs.Cases.{pick}
 use Rattle.lists.proofs.Picks.{never-both}
 use Rattle.page.specs.Marker.{startsWith, occursIn, marker}
 use Rattle.page.specs.Superblock.{superblockOf}
-use Rattle.page.specs.declared.superblocks.Superblock.{Superblock}
 
 -- the marker is held against the bytes from its front
 module _ (m s : List ℕ) (i : ℕ) where

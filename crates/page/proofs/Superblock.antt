@@ -12,29 +12,29 @@ use lib.ListN.{length}
 use Rattle.lists.specs.Cases.{pick}
 use Rattle.lists.proofs.Picks.{never-both}
 use Rattle.answers.specs.declared.kinds.Answer.the-variants.{WrongPageLength, BadMagic}
-use Rattle.page.specs.Superblock.{sa17, isSupported, variantBits, magicOf, refusedOf, acceptedOf, parsedOf, checkedOf}
+use Rattle.page.specs.Superblock.{sa17, isSupported, variantBits, magicOf, refusedSuperblock, acceptedSuperblock, superblockAnswer, checkedSuperblock}
 use Rattle.page.specs.declared.superblocks.FormatVersion.{FormatVersion}
 
 module _ (s : List ℕ) where
-  pub parsed-length : (length s ≡ 4096 → ⊥) → parsedOf s ≡ refusedOf (WrongPageLength (length s))
-  unfolding parsedOf
+  pub parsed-length : (length s ≡ 4096 → ⊥) → superblockAnswer s ≡ refusedSuperblock (WrongPageLength (length s))
+  unfolding superblockAnswer
   parsed-length n = rw (ne-eqb (length s) 4096 n)
 
-  pub checked-length : (length s ≡ 4096 → ⊥) → checkedOf s ≡ refusedOf (WrongPageLength (length s))
-  unfolding checkedOf
+  pub checked-length : (length s ≡ 4096 → ⊥) → checkedSuperblock s ≡ refusedSuperblock (WrongPageLength (length s))
+  unfolding checkedSuperblock
   checked-length n = rw (ne-eqb (length s) 4096 n)
 
   module _ (e : length s ≡ 4096) where
-    pub parsed-read : parsedOf s ≡ acceptedOf s
-    unfolding parsedOf
+    pub parsed-read : superblockAnswer s ≡ acceptedSuperblock s
+    unfolding superblockAnswer
     parsed-read = rw (eq-eqb (length s) 4096 e)
 
-    pub checked-magic : (magicOf s ≡ 0xDA7ABA5E → ⊥) → checkedOf s ≡ refusedOf (BadMagic (magicOf s))
-    unfolding checkedOf
+    pub checked-magic : (magicOf s ≡ 0xDA7ABA5E → ⊥) → checkedSuperblock s ≡ refusedSuperblock (BadMagic (magicOf s))
+    unfolding checkedSuperblock
     checked-magic n = rw (eq-eqb (length s) 4096 e, ne-eqb (magicOf s) 0xDA7ABA5E n)
 
-    pub checked-read : magicOf s ≡ 0xDA7ABA5E → checkedOf s ≡ acceptedOf s
-    unfolding checkedOf
+    pub checked-read : magicOf s ≡ 0xDA7ABA5E → checkedSuperblock s ≡ acceptedSuperblock s
+    unfolding checkedSuperblock
     checked-read m = rw (eq-eqb (length s) 4096 e, eq-eqb (magicOf s) 0xDA7ABA5E m)
 
 -- a version is supported just where it is 3.201.12

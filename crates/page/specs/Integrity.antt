@@ -6,7 +6,7 @@ use lib.Dec.{eqb}
 use lib.ListN.{length, take}
 use Rattle.lists.specs.Cases.{pick}
 use Rattle.lists.specs.Counts.{allAre}
-use Rattle.crc.specs.V42.{crc32Of}
+use Rattle.checksum.specs.V42.{crc32Of}
 use Rattle.answers.specs.declared.kinds.Answer.{Answer}
 use Rattle.answers.specs.declared.kinds.Answer.the-variants.{Accepted, WrongPageLength, BadCrc, BadTrailer}
 use Rattle.page.specs.Trailer.{isPage, storedCrc, reservedZero}
@@ -21,12 +21,15 @@ computedCrc s = crc32Of (take 4092 s)
 
 -- the reserved bytes are zero, except on page 0
 abbrev pub trailerHolds : ℕ → List ℕ → Bool
-trailerHolds page s = pick (eqb page 0) true (reservedZero s)
+trailerHolds number s = pick (eqb number 0) true (reservedZero s)
 
--- in this order: 1, unallocated accepted, 3, 4
-unfoldable pub integrityOf : ℕ → List ℕ → Answer
-integrityOf page s =
+-- of a page that was written, in this order: 1, 3, 4
+unfoldable pub writtenIntegrity : ℕ → List ℕ → Answer
+writtenIntegrity number s =
     pick (not (isPage s)) (WrongPageLength (length s))
-    (pick (isUnallocated s) Accepted
-    (pick (not (eqb (storedCrc s) (computedCrc s))) (BadCrc page (storedCrc s) (computedCrc s))
-    (pick (not (trailerHolds page s)) (BadTrailer page) Accepted)))
+    (pick (not (eqb (storedCrc s) (computedCrc s))) (BadCrc number (storedCrc s) (computedCrc s))
+    (pick (not (trailerHolds number s)) (BadTrailer number) Accepted))
+
+-- of any page: an unallocated one is accepted
+unfoldable pub integrityOf : ℕ → List ℕ → Answer
+integrityOf number s = pick (isUnallocated s) Accepted (writtenIntegrity number s)

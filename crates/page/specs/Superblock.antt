@@ -29,19 +29,19 @@ variantBits flags = bitAnd flags (255 - 0x09)
 
 -- the magic, at 0x14
 abbrev pub magicOf : List ℕ → ℕ
-magicOf s = quadAt s 0x14
+magicOf stored = quadAt stored 0x14
 
 -- flags byte 6, LSN at 8, major 0x10, magic 0x14, version halves 0x18 and 0x1A, page hint 0x1C, and the marker anywhere
 unfoldable pub superblockOf : List ℕ → Superblock
-superblockOf s =
+superblockOf stored =
     record {
-      «flags_06» = byteAt s 0x06;
-      «flags_06_variant_bits» = variantBits (byteAt s 0x06);
-      «current_lsn» = quadAt s 0x08;
-      format = record { major = quadAt s 0x10; a = pairAt s 0x18; b = pairAt s 0x1A };
-      magic = magicOf s;
-      «page_count_hint» = quadAt s 0x1C;
-      «sa_marker_present» = occursIn marker s;
+      «flags_06» = byteAt stored 0x06;
+      «flags_06_variant_bits» = variantBits (byteAt stored 0x06);
+      «current_lsn» = quadAt stored 0x08;
+      format = record { major = quadAt stored 0x10; a = pairAt stored 0x18; b = pairAt stored 0x1A };
+      magic = magicOf stored;
+      «page_count_hint» = quadAt stored 0x1C;
+      «sa_marker_present» = occursIn marker stored;
     }
 
 -- what stands beside a refusal
@@ -57,18 +57,18 @@ blankSuperblock =
       «sa_marker_present» = false;
     }
 
-abbrev pub refusedOf : Answer → SuperblockAnswer
-refusedOf a = record { answer = a; superblock = blankSuperblock }
+abbrev pub refusedSuperblock : Answer → SuperblockAnswer
+refusedSuperblock a = record { answer = a; superblock = blankSuperblock }
 
-abbrev pub acceptedOf : List ℕ → SuperblockAnswer
-acceptedOf s = record { answer = Accepted; superblock = superblockOf s }
+abbrev pub acceptedSuperblock : List ℕ → SuperblockAnswer
+acceptedSuperblock stored = record { answer = Accepted; superblock = superblockOf stored }
 
 -- plainly: 1
-unfoldable pub parsedOf : List ℕ → SuperblockAnswer
-parsedOf s = pick (not (isPage s)) (refusedOf (WrongPageLength (length s))) (acceptedOf s)
+unfoldable pub superblockAnswer : List ℕ → SuperblockAnswer
+superblockAnswer stored = pick (not (isPage stored)) (refusedSuperblock (WrongPageLength (length stored))) (acceptedSuperblock stored)
 
 -- checked: 1, then 13 with any magic but 0xDA7ABA5E
-unfoldable pub checkedOf : List ℕ → SuperblockAnswer
-checkedOf s =
-    pick (not (isPage s)) (refusedOf (WrongPageLength (length s)))
-    (pick (not (eqb (magicOf s) 0xDA7ABA5E)) (refusedOf (BadMagic (magicOf s))) (acceptedOf s))
+unfoldable pub checkedSuperblock : List ℕ → SuperblockAnswer
+checkedSuperblock stored =
+    pick (not (isPage stored)) (refusedSuperblock (WrongPageLength (length stored)))
+    (pick (not (eqb (magicOf stored) 0xDA7ABA5E)) (refusedSuperblock (BadMagic (magicOf stored))) (acceptedSuperblock stored))

@@ -15,7 +15,7 @@ use Rattle.page.specs.declared.trailers.TrailerAnswer.{TrailerAnswer}
 
 -- a page is 4,096 bytes
 abbrev pub isPage : List ℕ → Bool
-isPage s = eqb (length s) 4096
+isPage stored = eqb (length stored) 4096
 
 -- the data is 0 to 0xFEF; here the trailer starts
 abbrev pub trailerAt : ℕ
@@ -23,41 +23,41 @@ trailerAt = 0xFF0
 
 -- the row count: trailer byte 0
 abbrev pub rowCount : List ℕ → ℕ
-rowCount s = byteAt s trailerAt
+rowCount stored = byteAt stored trailerAt
 
 -- the type: trailer byte 2
 abbrev pub typeByte : List ℕ → ℕ
-typeByte s = byteAt s (trailerAt + 2)
+typeByte stored = byteAt stored (trailerAt + 2)
 
 -- the LSN: trailer bytes 4 to 7, the least first
 abbrev pub lsnOf : List ℕ → ℕ
-lsnOf s = quadAt s (trailerAt + 4)
+lsnOf stored = quadAt stored (trailerAt + 4)
 
 -- the CRC: trailer bytes 12 to 15, the least first
 abbrev pub storedCrc : List ℕ → ℕ
-storedCrc s = quadAt s (trailerAt + 12)
+storedCrc stored = quadAt stored (trailerAt + 12)
 
 -- the reserved bytes, trailer bytes 3 and 8 to 11, are zero
 unfoldable pub reservedZero : List ℕ → Bool
-reservedZero s =
+reservedZero stored =
     allAre 0
-    (byteAt s (trailerAt + 3)
-    ∷ byteAt s (trailerAt + 8)
-    ∷ byteAt s (trailerAt + 9)
-    ∷ byteAt s (trailerAt + 10)
-    ∷ byteAt s (trailerAt + 11)
+    (byteAt stored (trailerAt + 3)
+    ∷ byteAt stored (trailerAt + 8)
+    ∷ byteAt stored (trailerAt + 9)
+    ∷ byteAt stored (trailerAt + 10)
+    ∷ byteAt stored (trailerAt + 11)
     ∷ [])
 
 -- the record of a page's trailer
 unfoldable pub trailerOf : List ℕ → PageTrailer
-trailerOf s =
+trailerOf stored =
     record {
-      «row_count» = rowCount s;
-      «page_type» = typeOf (typeByte s);
-      «case_variant» = isVariant (typeByte s);
-      lsn = lsnOf s;
-      crc = storedCrc s;
-      «reserved_zero» = reservedZero s;
+      «row_count» = rowCount stored;
+      «page_type» = typeOf (typeByte stored);
+      «case_variant» = isVariant (typeByte stored);
+      lsn = lsnOf stored;
+      crc = storedCrc stored;
+      «reserved_zero» = reservedZero stored;
     }
 
 -- what stands beside a refusal
@@ -74,7 +74,7 @@ blankTrailer =
 
 -- 1 with the length; else the record
 unfoldable pub trailerAnswer : List ℕ → TrailerAnswer
-trailerAnswer s =
-    pick (not (isPage s))
-    (record { answer = answer.WrongPageLength (length s); trailer = blankTrailer })
-    (record { answer = answer.Accepted; trailer = trailerOf s })
+trailerAnswer stored =
+    pick (not (isPage stored))
+    (record { answer = answer.WrongPageLength (length stored); trailer = blankTrailer })
+    (record { answer = answer.Accepted; trailer = trailerOf stored })

@@ -12,6 +12,7 @@ mod trailers;
 mod types;
 
 pub use integrity::check_integrity;
+pub use integrity::check_written;
 pub use integrity::is_unallocated;
 pub use superblocks::FormatVersion;
 pub use superblocks::SA_MAGIC;

@@ -1,7 +1,7 @@
 // The superblock: the fields of page 0 that every known file agrees on.
 ghost use mathlib.Core.Path.{_≡_};
 ghost use lib.ListN.{length};
-ghost use Rattle.page.specs.Superblock.{isSupported, superblockOf, parsedOf, checkedOf, refusedOf};
+ghost use Rattle.page.specs.Superblock.{isSupported, superblockOf, superblockAnswer, checkedSuperblock, refusedSuperblock};
 use crate::fields::pair;
 use crate::fields::quad;
 use crate::markers::occurs;
@@ -11,10 +11,10 @@ use answers::Answer;
 // Stored as 5E BA 7A DA.
 pub const SA_MAGIC: u32 = 0xDA7A_BA5E;
 
-// The part of the copyright text that names the engine's version.
+// The part of the copyright text that names the engine's version, SQL Anywhere 17.0.4 of 2015.
 const SA_COPYRIGHT_MARKER: [u8; 33] = *b"SAP SE, Copyright (c)2015 17.0.4.";
 
-// The flag bits that every known file has.
+// The flag bits that every known file has; an edition adds bits of its own, as 0x40 or 0x20.
 const FLAGS_06_BASE: u8 = 0x09;
 
 pub struct FormatVersion {
@@ -63,7 +63,7 @@ pub struct SuperblockAnswer {
 impl Superblock {
     // The magic is read, and not judged.
     pub fn parse(page0: &[u8]) -> SuperblockAnswer
-        ensures { λ r. ⌜ r ≡ parsedOf (now (page0 .entry)) ⌝ }
+        ensures { λ r. ⌜ r ≡ superblockAnswer (now (page0 .entry)) ⌝ }
     {
         if page0.len() != PAGE_SIZE {
             return refused(Answer::WrongPageLength(page0.len()));
@@ -75,7 +75,7 @@ impl Superblock {
     }
 
     pub fn parse_checked(page0: &[u8]) -> SuperblockAnswer
-        ensures { λ r. ⌜ r ≡ checkedOf (now (page0 .entry)) ⌝ }
+        ensures { λ r. ⌜ r ≡ checkedSuperblock (now (page0 .entry)) ⌝ }
     {
         if page0.len() != PAGE_SIZE {
             return refused(Answer::WrongPageLength(page0.len()));
@@ -114,7 +114,7 @@ fn read(page0: &[u8]) -> Superblock
 }
 
 fn refused(answer: Answer) -> SuperblockAnswer
-    ensures { λ r. ⌜ r ≡ refusedOf answer ⌝ }
+    ensures { λ r. ⌜ r ≡ refusedSuperblock answer ⌝ }
 {
     let format = FormatVersion {
         major: 0,

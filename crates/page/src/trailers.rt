@@ -1,4 +1,4 @@
-// The trailer: the last 16 bytes of a stored page.
+// The trailer: the last 16 bytes of a stored page, from 0xFF0 on. They are stored plain: no sector covers them.
 ghost use mathlib.Core.Path.{_≡_};
 ghost use lib.ListN.{length};
 ghost use Rattle.page.specs.Trailer.{trailerOf, blankTrailer, reservedZero, trailerAnswer};
@@ -7,6 +7,7 @@ use crate::types::PageType;
 use crate::types::case_variant;
 use answers::Answer;
 
+// Eight sectors of 512 bytes, the last cut short by the trailer.
 pub const PAGE_SIZE: usize = 4096;
 
 pub struct PageTrailer {

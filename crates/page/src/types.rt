@@ -56,7 +56,7 @@ pub fn case_variant(b: u8) -> bool
     b <= b'z'
 }
 
-// A lower-case letter's upper-case form; any other byte as it is.
+// A lower-case letter's upper-case form, which is 0x20 less; any other byte as it is.
 fn upper(b: u8) -> u8
     ensures { λ r. ⌜ r ≡ upperOf b ⌝ }
 {

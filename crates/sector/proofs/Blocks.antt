@@ -10,6 +10,7 @@ use lib.ListN.{length, getD, take, drop, take-append-drop}
 use lib.Seq.{drop-drop}
 use Rattle.lists.specs.Cases.{pick}
 use Rattle.lists.specs.Counts.{allAre, allSame}
+use Rattle.lists.proofs.Picks.{pick-test}
 use Rattle.lists.proofs.Same.{are-past, are-not, are-all}
 
 pub are-append : (x : ℕ) (a b : List ℕ) → allAre x (a ++ b) ≡ pick (allAre x a) (allAre x b) false
@@ -38,10 +39,6 @@ neither : (b : Bool) → pick b false false ≡ false
 neither true = refl
 neither false = refl
 
-itself : (b : Bool) → pick b true false ≡ b
-itself true = refl
-itself false = refl
-
 module _ (x : ℕ) (l : List ℕ) where
   pub seen-none : Seen x l 0 true
   seen-none = record { whole = refl }
@@ -55,7 +52,7 @@ module _ (x : ℕ) (l : List ℕ) where
     seen-same h e = record { whole = s .whole ∙ ap (λ (t : Bool). pick same t false) (are-past x l i h (sym e)) }
 
     pub seen-all : i ≡ length l → same ≡ allAre x l
-    seen-all e = sym (s .whole ∙ ap (λ (t : Bool). pick same t false) (are-all x l i e) ∙ itself same)
+    seen-all e = sym (s .whole ∙ ap (λ (t : Bool). pick same t false) (are-all x l i e) ∙ pick-test same)
 
   -- one block after the other
   module _ (at end : ℕ) (h : at ≤ end) where

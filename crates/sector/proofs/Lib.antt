@@ -5,6 +5,6 @@ pub mod Shifts
 pub mod Leads
 pub mod Sorted
 pub mod Exact
-pub mod Found
+pub mod StepSearch
 pub mod Scans
 pub mod Blocks

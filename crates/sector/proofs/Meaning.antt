@@ -11,7 +11,8 @@ use Rattle.lists.proofs.Greatest.{greatest-above}
 use Rattle.sector.specs.Byte.{offsetOf, shiftedOf}
 use Rattle.sector.specs.Fit.{modalAt, fitOf, sectorOf, confidentOf}
 use Rattle.sector.specs.declared.fits.Fit.{Fit}
-use Rattle.sector.proofs.Sorted.{sortedDown, sorted-first, sorted-next, top-within, top-here, top-first}
+use Rattle.sector.specs.Sorted.{sortedDown}
+use Rattle.sector.proofs.Sorted.{sorted-first, sorted-next, top-within, top-here, top-first}
 
 -- THE FIT of a sector of any length: its step is a byte, and has the peak as its count; no step has a greater count, and every smaller step
 -- a lesser one; of the 256 counts sorted, the peak is the first and the runner-up the second; it is exact where all its shifted bytes are equal

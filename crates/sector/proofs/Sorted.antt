@@ -1,4 +1,4 @@
--- Numbers sorted, the greatest first: the first is the greatest, the next the second. Assumes nothing.
+-- Laws of numbers sorted, the greatest first: the first is the greatest, the next the second. Assumes nothing.
 use Prim.Native.Nat.{ℕ, zero, suc, _+_, _≤_, _<_, max, min, zero-le}
 use mathlib.Core.Path.{_≡_, refl, sym, ap, _∙_, subst}
 use mathlib.Core.Bool.{Bool, true, false}
@@ -6,26 +6,21 @@ use mathlib.Core.List.{List, [], _∷_}
 use native.Mathlib.Decide.{decLt}
 use native.Mathlib.Numerals.{add-one}
 use native.Mathlib.Omega.{arith}
-use borrow.Author.Tests.{ltb-true, ltb-false}
-use lib.Dec.{eqb, ltb}
+use borrow.Author.Tests.{leb-true, leb-false}
+use lib.Dec.{leb}
 use lib.ListN.{getD}
 use Rattle.lists.specs.Cases.{pick, flag}
 use Rattle.lists.specs.Counts.{count, greatest}
 use Rattle.lists.specs.Pieces.{each, fold}
+use Rattle.lists.specs.Sorting.{insert}
+use Rattle.lists.proofs.Sorting.{insert-count}
 use Rattle.lists.proofs.Count.{count-none}
 use Rattle.lists.proofs.Each.{each-none}
 use Rattle.lists.proofs.Fold.{fold-each}
 use Rattle.lists.proofs.Least.{Leader, leader-as}
 use Rattle.sector.specs.Fit.{topPlace, second}
+use Rattle.sector.specs.Sorted.{notLess, insertDown, sortedDown}
 use Rattle.sector.proofs.Leads.{Leads, leads-none, leads-up, leads-stay, leads-as, leads-most, leads-place, leads-next, leader-within, leader-here}
-
--- x put before the first number that is not greater
-unfoldable pub insert : ℕ → List ℕ → List ℕ
-insert x [] = x ∷ []
-insert x (y ∷ l) = pick (ltb x y) (y ∷ insert x l) (x ∷ y ∷ l)
-
-unfoldable pub sortedDown : List ℕ → List ℕ
-sortedDown l = fold (λ (s : List ℕ) (x : ℕ). insert x s) [] l
 
 abbrev first : List ℕ → ℕ
 first l = getD l 0 0
@@ -33,41 +28,29 @@ first l = getD l 0 0
 abbrev next : List ℕ → ℕ
 next l = getD l 1 0
 
-insert-first : (x : ℕ) (l : List ℕ) → first (insert x l) ≡ max x (first l)
+insert-first : (x : ℕ) (l : List ℕ) → first (insert notLess x l) ≡ max x (first l)
 unfolding insert
 insert-first x [] = omega arith
-insert-first x (y ∷ l) = go (ltb x y) refl
+insert-first x (y ∷ l) = go (leb y x) refl
   where
-    go : (b : Bool) → ltb x y ≡ b → getD (pick b (y ∷ insert x l) (x ∷ y ∷ l)) 0 0 ≡ max x y
-    go true e = omega (arith, ltb-true x y e)
-    go false e = omega (arith, ltb-false x y e)
+    go : (b : Bool) → leb y x ≡ b → getD (pick b (x ∷ y ∷ l) (y ∷ insert notLess x l)) 0 0 ≡ max x y
+    go true e = omega (arith, leb-true y x e)
+    go false e = omega (arith, leb-false y x e)
 
-insert-next : (x : ℕ) (l : List ℕ) → next l ≤ first l → next (insert x l) ≡ max (min x (first l)) (next l)
+insert-next : (x : ℕ) (l : List ℕ) → next l ≤ first l → next (insert notLess x l) ≡ max (min x (first l)) (next l)
 unfolding insert
 insert-next x [] h = omega arith
-insert-next x (y ∷ l) h = go (ltb x y) refl
+insert-next x (y ∷ l) h = go (leb y x) refl
   where
-    go : (b : Bool) → ltb x y ≡ b → getD (pick b (y ∷ insert x l) (x ∷ y ∷ l)) 1 0 ≡ max (min x y) (getD l 0 0)
-    go true e = omega (arith, ltb-true x y e, insert-first x l)
-    go false e = omega (arith, ltb-false x y e)
+    go : (b : Bool) → leb y x ≡ b → getD (pick b (x ∷ y ∷ l) (y ∷ insert notLess x l)) 1 0 ≡ max (min x y) (getD l 0 0)
+    go true e = omega (arith, leb-true y x e)
+    go false e = omega (arith, leb-false y x e, insert-first x l)
 
 -- it is a sort: every number stays as often as it was, and none is less than the next
-insert-count : (v x : ℕ) (l : List ℕ) → count v (insert x l) ≡ flag (eqb v x) + count v l
-unfolding insert count
-insert-count v x [] = refl
-insert-count v x (y ∷ l) = go (ltb x y) (insert-count v x l)
-  where
-    go :
-        (b : Bool)
-        → count v (insert x l) ≡ flag (eqb v x) + count v l
-        → count v (pick b (y ∷ insert x l) (x ∷ y ∷ l)) ≡ flag (eqb v x) + (flag (eqb v y) + count v l)
-    go true e = omega (arith, e)
-    go false e = refl
-
-fold-count : (v : ℕ) (s l : List ℕ) → count v (fold (λ (s : List ℕ) (x : ℕ). insert x s) s l) ≡ count v s + count v l
+fold-count : (v : ℕ) (s l : List ℕ) → count v (fold insertDown s l) ≡ count v s + count v l
 unfolding count fold
 fold-count v s [] = omega arith
-fold-count v s (x ∷ l) = fold-count v (insert x s) l ∙ omega (arith, insert-count v x s)
+fold-count v s (x ∷ l) = fold-count v (insert notLess x s) l ∙ omega (arith, insert-count notLess v x s)
 
 pub sorted-count : (v : ℕ) (l : List ℕ) → count v (sortedDown l) ≡ count v l
 unfolding sortedDown
@@ -76,16 +59,16 @@ sorted-count v l = fold-count v [] l ∙ omega (arith, count-none v)
 pub record Falls (l : List ℕ) : Type 0 where
   pub at : (i : ℕ) → getD l (suc i) 0 ≤ getD l i 0
 
-insert-falls : (x : ℕ) (l : List ℕ) → Falls l → Falls (insert x l)
+insert-falls : (x : ℕ) (l : List ℕ) → Falls l → Falls (insert notLess x l)
 unfolding insert
 insert-falls x [] f = record { at = λ i. last i }
   where
     last : (i : ℕ) → getD (x ∷ []) (suc i) 0 ≤ getD (x ∷ []) i 0
     last zero = zero-le
     last (suc i) = zero-le
-insert-falls x (y ∷ l) f = go (ltb x y) refl (insert-falls x l (record { at = λ i. f .at (suc i) }))
+insert-falls x (y ∷ l) f = go (leb y x) refl (insert-falls x l (record { at = λ i. f .at (suc i) }))
   where
-    here : Falls (insert x l) → x < y → (i : ℕ) → getD (y ∷ insert x l) (suc i) 0 ≤ getD (y ∷ insert x l) i 0
+    here : Falls (insert notLess x l) → x < y → (i : ℕ) → getD (y ∷ insert notLess x l) (suc i) 0 ≤ getD (y ∷ insert notLess x l) i 0
     here g h zero = omega (arith, insert-first x l, f .at 0)
     here g h (suc i) = g .at i
 
@@ -93,14 +76,14 @@ insert-falls x (y ∷ l) f = go (ltb x y) refl (insert-falls x l (record { at = 
     there h zero = h
     there h (suc i) = f .at i
 
-    go : (b : Bool) → ltb x y ≡ b → Falls (insert x l) → Falls (pick b (y ∷ insert x l) (x ∷ y ∷ l))
-    go true e g = record { at = here g (ltb-true x y e) }
-    go false e g = record { at = there (ltb-false x y e) }
+    go : (b : Bool) → leb y x ≡ b → Falls (insert notLess x l) → Falls (pick b (x ∷ y ∷ l) (y ∷ insert notLess x l))
+    go true e g = record { at = there (leb-true y x e) }
+    go false e g = record { at = here g (leb-false y x e) }
 
-fold-falls : (s l : List ℕ) → Falls s → Falls (fold (λ (s : List ℕ) (x : ℕ). insert x s) s l)
+fold-falls : (s l : List ℕ) → Falls s → Falls (fold insertDown s l)
 unfolding fold
 fold-falls s [] f = f
-fold-falls s (x ∷ l) f = fold-falls (insert x s) l (insert-falls x s f)
+fold-falls s (x ∷ l) f = fold-falls (insert notLess x s) l (insert-falls x s f)
 
 pub sorted-falls : (l : List ℕ) → Falls (sortedDown l)
 unfolding sortedDown
@@ -113,11 +96,11 @@ module _ (f : ℕ → ℕ) where
 
   sorted-none : sorted 0 ≡ []
   unfolding sorted sortedDown fold
-  sorted-none = ap (fold (λ (s : List ℕ) (x : ℕ). insert x s) []) (each-none f)
+  sorted-none = ap (fold insertDown []) (each-none f)
 
-  sorted-more : (n : ℕ) → sorted (n + 1) ≡ insert (f n) (sorted n)
+  sorted-more : (n : ℕ) → sorted (n + 1) ≡ insert notLess (f n) (sorted n)
   unfolding sorted sortedDown
-  sorted-more n = fold-each (λ (s : List ℕ) (x : ℕ). insert x s) [] f n
+  sorted-more n = fold-each insertDown [] f n
 
   falls : (n : ℕ) → next (sorted n) ≤ first (sorted n)
   unfolding sorted
@@ -137,7 +120,7 @@ module _ (f : ℕ → ℕ) where
     where
       step : (place : ℕ) → Leads f (n + 1) place (max (f n) (first (sorted n))) (max (min (f n) (first (sorted n))) (next (sorted n))) → Ranked (suc n)
       step place l =
-          let e : sorted (suc n) ≡ insert (f n) (sorted n) = ap sorted (sym (add-one n)) ∙ sorted-more n in
+          let e : sorted (suc n) ≡ insert notLess (f n) (sorted n) = ap sorted (sym (add-one n)) ∙ sorted-more n in
           let a : first (sorted (suc n)) ≡ max (f n) (first (sorted n)) = ap first e ∙ insert-first (f n) (sorted n) in
           let b : next (sorted (suc n)) ≡ max (min (f n) (first (sorted n))) (next (sorted n)) = ap next e ∙ insert-next (f n) (sorted n) (falls n) in
           record {

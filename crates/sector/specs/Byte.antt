@@ -4,7 +4,7 @@ use Rattle.lists.specs.Bytes.{less}
 
 -- page number and sector, less 4 * floor((page number mod 16) / 2), modulo 256
 abbrev pub offsetOf : ℕ → ℕ → ℕ
-offsetOf page sector = less (page + sector) (4 * (page % 16 / 2))
+offsetOf number sector = less (number + sector) (4 * (number % 16 / 2))
 
 -- byte i of a sector, less the offset, less i * step, modulo 256
 unfoldable pub shiftedOf : ℕ → ℕ → ℕ → ℕ → ℕ

@@ -2,3 +2,4 @@
 pub mod Byte
 pub mod Fit
 pub mod Scan
+pub mod Sorted

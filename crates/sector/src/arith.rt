@@ -4,11 +4,11 @@ ghost use Prim.Native.Nat.{_*_, _%_};
 ghost use Rattle.sector.specs.Byte.{offsetOf, shiftedOf};
 
 // What every byte of a sector is shifted by, whatever its place.
-pub fn ap_offset(page: u64, sector: u8) -> u8
-    ensures { λ r. ⌜ r ≡ offsetOf page sector ⌝ }
+pub fn ap_offset(number: u64, sector: u8) -> u8
+    ensures { λ r. ⌜ r ≡ offsetOf number sector ⌝ }
 {
-    let bias = (page % 16 / 2 * 4) as u8;
-    let sum = std::num::wrapping_add_u8((page % 256) as u8, sector);
+    let bias = (number % 16 / 2 * 4) as u8;
+    let sum = std::num::wrapping_add_u8((number % 256) as u8, sector);
     std::num::wrapping_sub_u8(sum, bias)
 }
 

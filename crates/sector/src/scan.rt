@@ -1,38 +1,29 @@
 // The scan of a sector: a histogram for each of the 256 steps. A step's bytes are shifted first, many at a time, and counted after.
 ghost use mathlib.Core.Path.{_≡_};
-ghost use Prim.Native.Nat.{ℕ, _<_, _≤_};
+ghost use Prim.Native.Nat.{_<_, _≤_};
 ghost use lib.ListN.{length, getD};
 ghost use Rattle.lists.specs.Counts.{greatest, Tallies};
 ghost use Rattle.sector.specs.Fit.{shiftedList, modalAt, fitOf};
-ghost use Rattle.sector.specs.Scan.{blankFit, sectorFit, sectorOut};
+ghost use Rattle.sector.specs.Scan.{sectorFit, sectorOut};
 use crate::arith::shifted;
 use crate::fits::Fit;
+use numbers::wide;
 
 // The fit of a sector of at most 512 bytes; its shifted bytes go into `out`, which has its length. Else a blank, and `out` stays.
 pub fn scan_sector(stored: &[u8], offset: u8, out: &mut [u8]) -> Fit
-    ensures { λ r. ⌜ (r ≡ sectorFit offset (now (stored .entry)) (length (now (out .entry)))) × (now (out .exit) ≡ sectorOut offset (now (stored .entry)) (now (out .entry))) ⌝ }
+    ensures { λ r. ⌜ r ≡ sectorFit offset (now (stored .entry)) (length (now (out .entry))) ⌝ }
+    ensures { λ r. ⌜ now (out .exit) ≡ sectorOut offset (now (stored .entry)) (now (out .entry)) ⌝ }
 {
     if stored.len() > 512 {
-        return blank_fit();
+        return Fit::blank();
     }
     if out.len() != stored.len() {
-        return blank_fit();
+        return Fit::blank();
     }
     let fit = fit_of(stored, offset, out);
     let step = fit.step;
     write_shifted(stored, offset, step, out);
     fit
-}
-
-fn blank_fit() -> Fit
-    ensures { λ r. ⌜ r ≡ blankFit ⌝ }
-{
-    Fit {
-        step: 0,
-        peak: 0,
-        runner_up: 0,
-        exact: false,
-    }
 }
 
 // `room` takes the shifted bytes of one step after the other.
@@ -56,11 +47,12 @@ fn fit_of(stored: &[u8], offset: u8, room: &mut [u8]) -> Fit
         }
         step += 1;
     }
+    let exact = best as usize == stored.len();
     Fit {
         step: best_step,
         peak: best,
         runner_up,
-        exact: best as usize == stored.len(),
+        exact,
     }
 }
 
@@ -85,12 +77,6 @@ fn histogram(bytes: &[u8]) -> [u16; 256]
         i += 1;
     }
     hist
-}
-
-fn wide(b: u8) -> usize
-    ensures { λ r. ⌜ (r ≡ b) × (r < 256) ⌝ }
-{
-    b as usize
 }
 
 fn largest(hist: [u16; 256]) -> u16

@@ -10,7 +10,7 @@ use native.Mathlib.Nat.{not-suc-le-zero, eq-or-lt-of-le, le-of-suc-le-suc}
 use lib.Dec.{leb}
 use borrow.Author.Tests.{leb-true, leb-false}
 use Rattle.lists.specs.Cases.{pick}
-use Rattle.slots.specs.Slots.{scanFrom, stronger, noScan, bestOf, directoryOf, scannedDirectory}
+use Rattle.slots.specs.Slots.{scanFrom, stronger, noScan, bestScan, directoryOf, scannedDirectory}
 use Rattle.slots.specs.declared.scans.Scan.{Scan}
 use Rattle.slots.specs.declared.scans.Found.{Found}
 use Rattle.slots.specs.declared.scans.Found.the-variants.{Directory, Nothing}
@@ -43,13 +43,13 @@ module _ (lim : ℕ) (p : List ℕ) where
   None-yet : ℕ → Scan → Type 0
   None-yet n b = (b ≡ noScan) × ((s : ℕ) → s < n → Not-more b (scanFrom lim p s))
 
-  best-is : (n : ℕ) → None-yet n (bestOf lim p n) ⊎ Best lim p n (bestOf lim p n)
-  unfolding bestOf None-yet
+  best-is : (n : ℕ) → None-yet n (bestScan lim p n) ⊎ Best lim p n (bestScan lim p n)
+  unfolding bestScan None-yet
   best-is zero = inl (refl, λ s l. absurd (not-suc-le-zero l))
-  best-is (suc n) = go (best-is n) (decide (bestOf lim p n) (scanFrom lim p n))
+  best-is (suc n) = go (best-is n) (decide (bestScan lim p n) (scanFrom lim p n))
     where
       b : Scan
-      b = bestOf lim p n
+      b = bestScan lim p n
 
       c : Scan
       c = scanFrom lim p n
@@ -78,10 +78,10 @@ module _ (lim : ℕ) (p : List ℕ) where
   -- the theorem
   pub scanned-best : (d : Scan) → scannedDirectory lim p ≡ Directory d → Best lim p lim d × (4 ≤ d .live)
   unfolding scannedDirectory directoryOf None-yet
-  scanned-best d q = go (leb 4 (bestOf lim p lim .live)) refl (best-is lim) q
+  scanned-best d q = go (leb 4 (bestScan lim p lim .live)) refl (best-is lim) q
     where
       b : Scan
-      b = bestOf lim p lim
+      b = bestScan lim p lim
 
       is : Found → Scan
       is Nothing = b
@@ -101,10 +101,10 @@ module _ (lim : ℕ) (p : List ℕ) where
 
   pub scanned-nothing : scannedDirectory lim p ≡ Nothing → (s : ℕ) → s < lim → scanFrom lim p s .live < 4
   unfolding scannedDirectory directoryOf None-yet
-  scanned-nothing q s l = go (leb 4 (bestOf lim p lim .live)) refl (best-is lim) q
+  scanned-nothing q s l = go (leb 4 (bestScan lim p lim .live)) refl (best-is lim) q
     where
       b : Scan
-      b = bestOf lim p lim
+      b = bestScan lim p lim
 
       some : Found → Bool
       some Nothing = false

@@ -10,7 +10,7 @@ use lib.Dec.{ltb, leb, eqb}
 use borrow.Author.Tests.{ltb-true, ltb-false, eqb-true, eqb-false, leb-true, leb-false}
 use Rattle.lists.specs.Bytes.{plainOf, pairAt}
 use Rattle.lists.proofs.Plain.{plain-length}
-use Rattle.slots.specs.Slots.{isOffset, words, wordsFrom, opening, slotsAt, trim, liveOf, arrayStart, scanAt, scanFrom, stronger, bestOf, directoryOf, scannedDirectory}
+use Rattle.slots.specs.Slots.{isOffset, words, wordsFrom, opening, slotsAt, trim, liveOf, arrayStart, scanAt, scanFrom, stronger, bestScan, directoryOf, scannedDirectory}
 use Rattle.slots.specs.Sweep.{emptyScan}
 use Rattle.slots.specs.declared.scans.Scan.{Scan}
 use Rattle.slots.specs.declared.scans.Found.{Found}
@@ -86,24 +86,24 @@ module _ (lim : ℕ) (p : List ℕ) (past : length p ≤ lim) where
             none (empty-past (s + 2) (omega arith)) (start-skips lim p s (pairAt p s) (pairAt p (s + 2)) (ltb-true (s + 3) lim qy) refl (eqb-true (pairAt p s) 0 qz) refl qo)
             (empty-zero s h (eqb-true (pairAt p s) 0 qz))
 
-  best-within : (n : ℕ) → bestOf lim p n ≡ bestOf (length p) p n
-  unfolding bestOf
+  best-within : (n : ℕ) → bestScan lim p n ≡ bestScan (length p) p n
+  unfolding bestScan
   best-within zero = refl
-  best-within (suc n) = ap (λ (x : Scan). stronger x (scanFrom lim p n)) (best-within n) ∙ strong-within (bestOf (length p) p n) n
+  best-within (suc n) = ap (λ (x : Scan). stronger x (scanFrom lim p n)) (best-within n) ∙ strong-within (bestScan (length p) p n) n
 
 -- no start past the limit counts
-best-past : (lim : ℕ) (p : List ℕ) (more : ℕ) → bestOf lim p (lim + more) ≡ bestOf lim p lim
-unfolding bestOf
+best-past : (lim : ℕ) (p : List ℕ) (more : ℕ) → bestScan lim p (lim + more) ≡ bestScan lim p lim
+unfolding bestScan
 best-past lim p zero = rw add-zero refl
 best-past lim p (suc more) =
     let e : scanFrom lim p (lim + more) ≡ emptyScan (lim + more) = scan-empty lim p (lim + more) (start-near lim p (lim + more) (omega arith)) (slots-end lim p (lim + more) (omega arith)) in
-    rw add-suc (strong-empty (bestOf lim p (lim + more)) (scanFrom lim p (lim + more)) (ap (λ (x : Scan). x .live) e) (ap (λ (x : Scan). x .slots) e) ∙ best-past lim p more)
+    rw add-suc (strong-empty (bestScan lim p (lim + more)) (scanFrom lim p (lim + more)) (ap (λ (x : Scan). x .live) e) (ap (λ (x : Scan). x .slots) e) ∙ best-past lim p more)
 
 pub scanned-past : (lim : ℕ) (p : List ℕ) → length p ≤ lim → scannedDirectory (length p) p ≡ scannedDirectory lim p
 unfolding scannedDirectory
 scanned-past lim p h =
     let e : length p + (lim - length p) ≡ lim = omega arith in
-    ap directoryOf (sym (best-past (length p) p (lim - length p)) ∙ ap (bestOf (length p) p) e ∙ sym (best-within lim p h lim))
+    ap directoryOf (sym (best-past (length p) p (lim - length p)) ∙ ap (bestScan (length p) p) e ∙ sym (best-within lim p h lim))
 
 pub scanned-end : (lim bv : ℕ) (xs : List ℕ) (r : Found) → length xs ≤ lim → r ≡ scannedDirectory (length xs) (plainOf bv xs) → r ≡ scannedDirectory lim (plainOf bv xs)
 scanned-end lim bv xs r h e =

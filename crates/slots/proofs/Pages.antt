@@ -12,7 +12,7 @@ use borrow.Author.Tests.{ltb-true, leb-true}
 use Rattle.lists.specs.Cases.{pick}
 use Rattle.lists.specs.Bytes.{less, plainOf, byteAt, pairAt}
 use Rattle.lists.proofs.Plain.{plain-length, plain-at}
-use Rattle.slots.specs.Slots.{isOffset, words, wordsFrom, opening, slotsAt, trim, liveOf, arrayStart, scanAt, scanFrom, stronger, bestOf, directoryOf, scannedDirectory, countedBack, counted, rowCountMatches, dataEnd, declaredSlots, runOf, noted, gapNoted, fieldNoted, preludeOf}
+use Rattle.slots.specs.Slots.{isOffset, words, wordsFrom, opening, slotsAt, trim, liveOf, arrayStart, scanAt, scanFrom, stronger, bestScan, directoryOf, scannedDirectory, countedBack, counted, rowCountMatches, dataEnd, declaredSlots, runOf, noted, gapNoted, fieldNoted, preludeOf}
 use Rattle.slots.specs.declared.scans.Scan.{Scan}
 use Rattle.slots.specs.declared.scans.Found.{Found}
 use Rattle.slots.specs.declared.scans.Found.the-variants.{Directory, Nothing}
@@ -58,10 +58,10 @@ module _ (a b : List ℕ) where
       ap (scanAt lim (a ++ b)) (start-data lim s le)
       ∙ ap (λ (l : List ℕ). record { start = arrayStart lim a s; slots = length (trim l); live = liveOf l }) (slots-data lim (arrayStart lim a s) le)
 
-  best-data : (lim n : ℕ) → lim ≤ length a → bestOf lim (a ++ b) n ≡ bestOf lim a n
-  unfolding bestOf
+  best-data : (lim n : ℕ) → lim ≤ length a → bestScan lim (a ++ b) n ≡ bestScan lim a n
+  unfolding bestScan
   best-data lim zero le = refl
-  best-data lim (suc n) le = ap (λ (x : Scan). stronger x (scanFrom lim (a ++ b) n)) (best-data lim n le) ∙ ap (stronger (bestOf lim a n)) (scan-data lim n le)
+  best-data lim (suc n) le = ap (λ (x : Scan). stronger x (scanFrom lim (a ++ b) n)) (best-data lim n le) ∙ ap (stronger (bestScan lim a n)) (scan-data lim n le)
 
   pub scanned-data : (lim : ℕ) → lim ≤ length a → scannedDirectory lim (a ++ b) ≡ scannedDirectory lim a
   unfolding scannedDirectory

@@ -3,16 +3,17 @@ use Prim.Native.Nat.{ℕ, zero, suc, _+_, _-_, _≤_, _<_, min}
 use mathlib.Core.Path.{_≡_, refl, sym, ap, _∙_}
 use mathlib.Core.List.{List}
 use mathlib.Core.Logic.{⊎-elim}
-use mathlib.Core.Bool.{Bool, true, false, _&&_, _||_, false≢true, and-false}
+use mathlib.Core.Bool.{Bool, true, false, _&&_, _||_, and-false}
 use native.Mathlib.Omega.{arith}
 use native.Mathlib.Numerals.{add-one}
 use native.Mathlib.Nat.{not-suc-le-zero, le-of-suc-le-suc, eq-or-lt-of-le}
 use lib.ListN.{length}
 use lib.Dec.{ltb, leb, eqb}
 use borrow.Author.Tests.{le-leb, lt-leb, leb-true, leb-false, eq-eqb, ne-eqb}
+use Rattle.lists.proofs.Booleans.{or-no-left, or-no-right}
 use Rattle.lists.specs.Cases.{pick}
 use Rattle.lists.specs.Bytes.{byteAt, pairAt}
-use Rattle.slots.specs.Slots.{isOffset, arrayStart, scanFrom, stronger, bestOf, directoryOf, scannedDirectory, countedBack, counted, rowCountMatches, pageMatches}
+use Rattle.slots.specs.Slots.{isOffset, arrayStart, scanFrom, stronger, bestScan, directoryOf, scannedDirectory, countedBack, counted, rowCountMatches, pageMatches}
 use Rattle.slots.specs.Sweep.{hasPair}
 use Rattle.slots.specs.declared.scans.Scan.{Scan}
 use Rattle.slots.specs.declared.scans.Found.{Found}
@@ -36,13 +37,13 @@ stronger-start b c k hb hc = go (ltb (b .live) (c .live) || (eqb (b .live) (c .l
     go true = hc
     go false = hb
 
-best-start : (lim : ℕ) (p : List ℕ) (n : ℕ) → bestOf lim p n .start ≤ n + 1
-unfolding bestOf scanFrom
+best-start : (lim : ℕ) (p : List ℕ) (n : ℕ) → bestScan lim p n .start ≤ n + 1
+unfolding bestScan scanFrom
 best-start lim p zero = omega arith
 best-start lim p (suc n) =
-    let h : bestOf lim p n .start ≤ n + 1 = best-start lim p n in
+    let h : bestScan lim p n .start ≤ n + 1 = best-start lim p n in
     let k : arrayStart lim p n ≤ n + 2 = start-bound lim p n in
-    stronger-start (bestOf lim p n) (scanFrom lim p n) (suc n + 1) (omega arith) (omega arith)
+    stronger-start (bestScan lim p n) (scanFrom lim p n) (suc n + 1) (omega arith) (omega arith)
 
 startOf : Found → ℕ
 startOf Nothing = 0
@@ -50,9 +51,9 @@ startOf (Directory d) = d .start
 
 scanned-start : (lim : ℕ) (p : List ℕ) → startOf (scannedDirectory lim p) ≤ lim + 1
 unfolding scannedDirectory directoryOf startOf
-scanned-start lim p = go (leb 4 (bestOf lim p lim .live)) (best-start lim p lim)
+scanned-start lim p = go (leb 4 (bestScan lim p lim .live)) (best-start lim p lim)
   where
-    go : (t : Bool) → bestOf lim p lim .start ≤ lim + 1 → startOf (pick t (Directory (bestOf lim p lim)) Nothing) ≤ lim + 1
+    go : (t : Bool) → bestScan lim p lim .start ≤ lim + 1 → startOf (pick t (Directory (bestScan lim p lim)) Nothing) ≤ lim + 1
     go true h = h
     go false h = omega arith
 
@@ -78,14 +79,6 @@ module _ (p : List ℕ) (start n back : ℕ) where
   unfolding countedBack
   back-is a b r h e f g = rw (le-leb (back + 2) start h, ← e, ← f) g
 
-or-left : (x y : Bool) → (x || y) ≡ false → x ≡ false
-or-left true y e = e
-or-left false y e = refl
-
-or-right : (x y : Bool) → (x || y) ≡ false → y ≡ false
-or-right true y e = absurd (false≢true (sym e))
-or-right false y e = e
-
 -- the pair that is looked for before the scan: one more position
 module _ (a b : ℕ) (p : List ℕ) where
   pub pair-none : false ≡ hasPair a b p 0
@@ -103,7 +96,7 @@ module _ (a b : ℕ) (p : List ℕ) where
   not-there : (n : ℕ) → hasPair a b p n ≡ false → (i : ℕ) → i < n → (eqb (byteAt p i) a && eqb (byteAt p (i + 1)) b) ≡ false
   unfolding hasPair
   not-there zero e i h = absurd (not-suc-le-zero h)
-  not-there (suc n) e i h = ⊎-elim (λ k. rw k (or-right (hasPair a b p n) _ e)) (λ k. not-there n (or-left (hasPair a b p n) _ e) i k) (eq-or-lt-of-le (le-of-suc-le-suc h))
+  not-there (suc n) e i h = ⊎-elim (λ k. rw k (or-no-right (hasPair a b p n) _ e)) (λ k. not-there n (or-no-left (hasPair a b p n) _ e) i k) (eq-or-lt-of-le (le-of-suc-le-suc h))
 
 -- the row-count test, by the tests in their order
 module _ (lim : ℕ) (p : List ℕ) (n t : ℕ) where

@@ -10,9 +10,8 @@ use native.Mathlib.Numerals.{add-one}
 use lib.Dec.{ltb, eqb}
 use borrow.Author.Tests.{eq-eqb, ne-eqb, lt-ltb, le-ltb, le-leb, lt-leb, ltb-true, ltb-false, eqb-true, eqb-false}
 use Rattle.lists.specs.Bytes.{pairAt}
-use Rattle.slots.specs.Slots.{isOffset, arrayStart, scanFrom, stronger, noScan, bestOf, directoryOf, scannedDirectory}
+use Rattle.slots.specs.Slots.{isOffset, arrayStart, scanFrom, stronger, noScan, bestScan, directoryOf, scannedDirectory}
 use Rattle.slots.specs.declared.scans.Scan.{Scan}
-use Rattle.slots.specs.declared.scans.Found.{Found}
 use Rattle.slots.specs.declared.scans.Found.the-variants.{Directory, Nothing}
 
 -- where the array of a scan starts, by the tests in their order
@@ -114,14 +113,14 @@ pub bestFrom : ℕ → List ℕ → ℕ → ℕ → Scan
 bestFrom lim p s zero = noScan
 bestFrom lim p s (suc k) = stronger (scanFrom lim p s) (bestFrom lim p (s + 1) k)
 
-from-all : (lim : ℕ) (p : List ℕ) (k s : ℕ) → bestOf lim p (s + k) ≡ stronger (bestOf lim p s) (bestFrom lim p s k)
-unfolding bestFrom bestOf
-from-all lim p zero s = rw add-zero (sym (strong-empty (bestOf lim p s) noScan refl refl))
+from-all : (lim : ℕ) (p : List ℕ) (k s : ℕ) → bestScan lim p (s + k) ≡ stronger (bestScan lim p s) (bestFrom lim p s k)
+unfolding bestFrom bestScan
+from-all lim p zero s = rw add-zero (sym (strong-empty (bestScan lim p s) noScan refl refl))
 from-all lim p (suc k) s =
     let e : s + suc k ≡ s + 1 + k = omega arith in
-    ap (bestOf lim p) e ∙ from-all lim p k (s + 1)
+    ap (bestScan lim p) e ∙ from-all lim p k (s + 1)
     ∙ ap (λ (x : Scan). stronger x (bestFrom lim p (s + 1) k)) (rw add-one refl)
-    ∙ stronger-assoc (bestOf lim p s) (scanFrom lim p s) (bestFrom lim p (s + 1) k)
+    ∙ stronger-assoc (bestScan lim p s) (scanFrom lim p s) (bestFrom lim p (s + 1) k)
 
 directory-from : (b : Scan) → directoryOf (stronger noScan b) ≡ directoryOf b
 unfolding directoryOf
@@ -146,12 +145,12 @@ from-more lim p s h =
     sym (ap (bestFrom lim p s) n)
 
 pub from-start : (lim : ℕ) (p : List ℕ) (b : Scan) → b ≡ bestFrom lim p 0 (lim - 0) → directoryOf b ≡ scannedDirectory lim p
-unfolding scannedDirectory bestOf
+unfolding scannedDirectory bestScan
 from-start lim p b e =
     let z : lim - 0 ≡ lim = omega arith in
     let y : 0 + lim ≡ lim = omega arith in
     ap directoryOf (e ∙ ap (bestFrom lim p 0) z) ∙ sym (directory-from (bestFrom lim p 0 lim))
-    ∙ ap directoryOf (sym (from-all lim p lim 0)) ∙ ap (λ (x : ℕ). directoryOf (bestOf lim p x)) y
+    ∙ ap directoryOf (sym (from-all lim p lim 0)) ∙ ap (λ (x : ℕ). directoryOf (bestScan lim p x)) y
 
 -- four live slots or none
 module _ (b : Scan) where

@@ -14,7 +14,7 @@ use Rattle.lists.specs.Cases.{pick}
 use Rattle.lists.proofs.Picks.{pick-le}
 use Rattle.lists.specs.Bytes.{pairAt}
 use Rattle.slots.specs.Slots.{isOffset, wordsFrom, falling, opening, slotsAt, ontoTrimmed, trim, liveOf, arrayStart, scanAt, scanFrom, stronger, noScan, directoryOf, scannedDirectory}
-use Rattle.slots.specs.Sweep.{noTail, joinedBy, joined, tailOf, emptyScan, scanOf, keptOf}
+use Rattle.slots.specs.Sweep.{noTail, extendedBy, extended, tailOf, emptyScan, tailScan, strongerKept}
 use Rattle.slots.specs.declared.scans.Scan.{Scan}
 use Rattle.slots.specs.declared.scans.Tail.{Tail}
 use Rattle.slots.proofs.Words.{words-step, words-here, words-end, words-fit, offset-low, offset-high, offset-pos}
@@ -22,37 +22,37 @@ use Rattle.slots.proofs.Scanned.{start-near, start-live, start-skips, s
 
 -- the tail after one more pair, by the tests in their order
 module _ (w : ℕ) (t : Tail) where
-  pub join-zero : w ≡ 0 → record { value = t .value; gap = t .gap + 1; slots = t .slots; live = t .live } ≡ joined w t
-  unfolding joined
-  join-zero z = rw (eq-eqb w 0 z) refl
+  pub extend-zero : w ≡ 0 → record { value = t .value; gap = t .gap + 1; slots = t .slots; live = t .live } ≡ extended w t
+  unfolding extended
+  extend-zero z = rw (eq-eqb w 0 z) refl
 
-  pub join-other : (w ≡ 0 → ⊥) → isOffset w ≡ false → noTail ≡ joined w t
-  unfolding joined
-  join-other n o = rw (ne-eqb w 0 n, o) refl
+  pub extend-other : (w ≡ 0 → ⊥) → isOffset w ≡ false → noTail ≡ extended w t
+  unfolding extended
+  extend-other n o = rw (ne-eqb w 0 n, o) refl
 
-  pub join-more : isOffset w ≡ true → t .value < w → record { value = w; gap = 0; slots = t .gap + t .slots + 1; live = t .live + 1 } ≡ joined w t
-  unfolding joined
-  join-more o k = rw (ne-eqb w 0 (offset-pos w o), o, lt-ltb (t .value) w k) refl
+  pub extend-more : isOffset w ≡ true → t .value < w → record { value = w; gap = 0; slots = t .gap + t .slots + 1; live = t .live + 1 } ≡ extended w t
+  unfolding extended
+  extend-more o k = rw (ne-eqb w 0 (offset-pos w o), o, lt-ltb (t .value) w k) refl
 
-  pub join-first : isOffset w ≡ true → w ≤ t .value → record { value = w; gap = 0; slots = 1; live = 1 } ≡ joined w t
-  unfolding joined
-  join-first o k = rw (ne-eqb w 0 (offset-pos w o), o, le-ltb (t .value) w k) refl
+  pub extend-first : isOffset w ≡ true → w ≤ t .value → record { value = w; gap = 0; slots = 1; live = 1 } ≡ extended w t
+  unfolding extended
+  extend-first o k = rw (ne-eqb w 0 (offset-pos w o), o, le-ltb (t .value) w k) refl
 
 -- a tail has no more slots than its list has pairs
 pub record Few (t : Tail) (n : ℕ) : Type 0 where
   pub in-slots : t .gap + t .slots ≤ n
   pub in-live : t .live ≤ n
 
-few-joined : (a b c : Bool) (w : ℕ) (t : Tail) (n : ℕ) → Few t n → Few (joinedBy a b c w t) (suc n)
-few-joined true b c w t n f = record { in-slots = omega (arith, f .in-slots); in-live = omega (arith, f .in-live) }
-few-joined false true true w t n f = record { in-slots = omega (arith, f .in-slots); in-live = omega (arith, f .in-live) }
-few-joined false true false w t n f = record { in-slots = omega arith; in-live = omega arith }
-few-joined false false c w t n f = record { in-slots = omega arith; in-live = omega arith }
+few-extended : (a b c : Bool) (w : ℕ) (t : Tail) (n : ℕ) → Few t n → Few (extendedBy a b c w t) (suc n)
+few-extended true b c w t n f = record { in-slots = omega (arith, f .in-slots); in-live = omega (arith, f .in-live) }
+few-extended false true true w t n f = record { in-slots = omega (arith, f .in-slots); in-live = omega (arith, f .in-live) }
+few-extended false true false w t n f = record { in-slots = omega arith; in-live = omega arith }
+few-extended false false c w t n f = record { in-slots = omega arith; in-live = omega arith }
 
 few-tail : (ws : List ℕ) → Few (tailOf ws) (length ws)
-unfolding tailOf joined
+unfolding tailOf extended
 few-tail [] = record { in-slots = omega arith; in-live = omega arith }
-few-tail (w ∷ ws) = few-joined (eqb w 0) (isOffset w) (ltb (tailOf ws .value) w) w (tailOf ws) (length ws) (few-tail ws)
+few-tail (w ∷ ws) = few-extended (eqb w 0) (isOffset w) (ltb (tailOf ws .value) w) w (tailOf ws) (length ws) (few-tail ws)
 
 pub tail-few : (lim : ℕ) (p : List ℕ) (at : ℕ) (t : Tail) → t ≡ tailOf (wordsFrom lim p at) → (2 * (t .gap + t .slots) ≤ lim) × (2 * t .live ≤ lim)
 tail-few lim p at t e =
@@ -64,17 +64,17 @@ tail-few lim p at t e =
 Runs : Tail → Type 0
 Runs t = t .value < 0xFF0 → 0 < t .slots
 
-runs-joined : (a b c : Bool) (w : ℕ) (t : Tail) → Runs t → Runs (joinedBy a b c w t)
+runs-extended : (a b c : Bool) (w : ℕ) (t : Tail) → Runs t → Runs (extendedBy a b c w t)
 unfolding Runs
-runs-joined true b c w t h k = h k
-runs-joined false true true w t h k = omega arith
-runs-joined false true false w t h k = omega arith
-runs-joined false false c w t h k = absurd (omega arith)
+runs-extended true b c w t h k = h k
+runs-extended false true true w t h k = omega arith
+runs-extended false true false w t h k = omega arith
+runs-extended false false c w t h k = absurd (omega arith)
 
 runs-tail : (ws : List ℕ) → Runs (tailOf ws)
-unfolding tailOf joined Runs
+unfolding tailOf extended Runs
 runs-tail [] k = absurd (omega arith)
-runs-tail (w ∷ ws) k = runs-joined (eqb w 0) (isOffset w) (ltb (tailOf ws .value) w) w (tailOf ws) (runs-tail ws) k
+runs-tail (w ∷ ws) k = runs-extended (eqb w 0) (isOffset w) (ltb (tailOf ws .value) w) w (tailOf ws) (runs-tail ws) k
 
 -- the live slots and the slots of a list
 abbrev Tally : List ℕ → ℕ → ℕ → Type 0
@@ -121,7 +121,7 @@ zero-step w t l hw h k = go (ltb (t .value) w) refl k
         subst (λ (n : ℕ). Tally (0 ∷ l) (t .live) n) e (tally-zero l (t .live) (t .gap + t .slots) (omega arith) k)
     go false q k = tally-zeros l k
 
-live-step : (v : ℕ) (t : Tail) (l : List ℕ) (c : Bool) → isOffset v ≡ true → Tally l (pick c (t .live) 0) (pick c (t .gap + t .slots) 0) → Tally (v ∷ l) (joinedBy false true c v t .live) (joinedBy false true c v t .gap + joinedBy false true c v t .slots)
+live-step : (v : ℕ) (t : Tail) (l : List ℕ) (c : Bool) → isOffset v ≡ true → Tally l (pick c (t .live) 0) (pick c (t .gap + t .slots) 0) → Tally (v ∷ l) (extendedBy false true c v t .live) (extendedBy false true c v t .gap + extendedBy false true c v t .slots)
 live-step v t l true o k =
     let low : 0x20 ≤ v = offset-low v o in
     let e : t .gap + t .slots + 1 ≡ 0 + (t .gap + t .slots + 1) = omega arith in
@@ -130,7 +130,7 @@ live-step v t l false o k =
     let low : 0x20 ≤ v = offset-low v o in
     tally-live v l 0 0 (omega arith) k
 
-tells-step : (w v : ℕ) (t : Tail) (lw lv : List ℕ) (a b d c : Bool) → w ≤ 0xFF0 → isOffset v ≡ b → ltb v w ≡ d → ltb (t .value) v ≡ c → Runs t → Tells lw w t → (isOffset v ≡ true → Tells lv v t) → Tells (pick a (0 ∷ lw) (pick (b && d) (v ∷ lv) [])) w (joinedBy a b c v t)
+tells-step : (w v : ℕ) (t : Tail) (lw lv : List ℕ) (a b d c : Bool) → w ≤ 0xFF0 → isOffset v ≡ b → ltb v w ≡ d → ltb (t .value) v ≡ c → Runs t → Tells lw w t → (isOffset v ≡ true → Tells lv v t) → Tells (pick a (0 ∷ lw) (pick (b && d) (v ∷ lv) [])) w (extendedBy a b c v t)
 tells-step w v t lw lv true b d c m q r k h hw hv = zero-step w t lw m h hw
 tells-step w v t lw lv false false d c m q r k h hw hv = rw (le-ltb 0xFF0 w m) tally-none
 tells-step w v t lw lv false true true true m q r k h hw hv = rw r (live-step v t lv true q (rw k at (hv q)))
@@ -139,45 +139,45 @@ tells-step w v t lw lv false true false true m q r k h hw hv = rw r tally-none
 tells-step w v t lw lv false true false false m q r k h hw hv = rw r tally-none
 
 falling-tail : (ws : List ℕ) (w : ℕ) → w ≤ 0xFF0 → Tells (falling w ws) w (tailOf ws)
-unfolding falling tailOf joined
+unfolding falling tailOf extended
 falling-tail [] w m = rw (le-ltb 0xFF0 w m) tally-none
 falling-tail (v ∷ ws) w m =
     tells-step w v (tailOf ws) (falling w ws) (falling v ws) (eqb v 0) (isOffset v) (ltb v w) (ltb (tailOf ws .value) v) m refl refl refl (runs-tail ws) (falling-tail ws w m)
     (λ o. falling-tail ws v (let h : v < 0xFF0 = offset-high v o in omega arith))
 
 -- the run at an offset w
-opening-tail : (w : ℕ) (ws : List ℕ) → isOffset w ≡ true → Tally (opening (w ∷ ws)) (joined w (tailOf ws) .live) (joined w (tailOf ws) .gap + joined w (tailOf ws) .slots)
-unfolding opening joined
+opening-tail : (w : ℕ) (ws : List ℕ) → isOffset w ≡ true → Tally (opening (w ∷ ws)) (extended w (tailOf ws) .live) (extended w (tailOf ws) .gap + extended w (tailOf ws) .slots)
+unfolding opening extended
 opening-tail w ws o = rw (o, ne-eqb w 0 (offset-pos w o)) (go (ltb (tailOf ws .value) w) refl (falling-tail ws w (let h : w < 0xFF0 = offset-high w o in omega arith)))
   where
-    go : (c : Bool) → ltb (tailOf ws .value) w ≡ c → Tells (falling w ws) w (tailOf ws) → Tally (w ∷ falling w ws) (joinedBy false true c w (tailOf ws) .live) (joinedBy false true c w (tailOf ws) .gap + joinedBy false true c w (tailOf ws) .slots)
+    go : (c : Bool) → ltb (tailOf ws .value) w ≡ c → Tells (falling w ws) w (tailOf ws) → Tally (w ∷ falling w ws) (extendedBy false true c w (tailOf ws) .live) (extendedBy false true c w (tailOf ws) .gap + extendedBy false true c w (tailOf ws) .slots)
     go true q k = live-step w (tailOf ws) (falling w ws) true o (rw q at k)
     go false q k = live-step w (tailOf ws) (falling w ws) false o (rw q at k)
 
-joined-offset : (w : ℕ) (t : Tail) → isOffset w ≡ true → (joined w t .gap ≡ 0) × (0 < joined w t .live)
-unfolding joined
-joined-offset w t o = rw (o, ne-eqb w 0 (offset-pos w o)) (go (ltb (t .value) w))
+extended-offset : (w : ℕ) (t : Tail) → isOffset w ≡ true → (extended w t .gap ≡ 0) × (0 < extended w t .live)
+unfolding extended
+extended-offset w t o = rw (o, ne-eqb w 0 (offset-pos w o)) (go (ltb (t .value) w))
   where
-    go : (c : Bool) → (joinedBy false true c w t .gap ≡ 0) × (0 < joinedBy false true c w t .live)
+    go : (c : Bool) → (extendedBy false true c w t .gap ≡ 0) × (0 < extendedBy false true c w t .live)
     go true = (refl, omega arith)
     go false = (refl, omega arith)
 
 -- the scan of a tail, by the tests in their order
 module _ (s : ℕ) (t : Tail) where
-  scan-dead : t .live ≡ 0 → emptyScan s ≡ scanOf s t
-  unfolding scanOf
+  scan-dead : t .live ≡ 0 → emptyScan s ≡ tailScan s t
+  unfolding tailScan
   scan-dead z = rw (lt-leb 1 (t .live) (omega arith)) refl
 
-  scan-far : 1 < t .gap → emptyScan s ≡ scanOf s t
-  unfolding scanOf
+  scan-far : 1 < t .gap → emptyScan s ≡ tailScan s t
+  unfolding tailScan
   scan-far h = rw (lt-leb (t .gap) 1 h, and-false) refl
 
-  scan-is : (t .live ≡ 0 → ⊥) → t .gap ≤ 1 → record { start = s + 2 * t .gap; slots = t .slots; live = t .live } ≡ scanOf s t
-  unfolding scanOf
+  scan-is : (t .live ≡ 0 → ⊥) → t .gap ≤ 1 → record { start = s + 2 * t .gap; slots = t .slots; live = t .live } ≡ tailScan s t
+  unfolding tailScan
   scan-is n h = rw (le-leb 1 (t .live) (omega (arith, n)), le-leb (t .gap) 1 h) refl
 
-  scan-live : scanOf s t .live ≤ t .live
-  unfolding scanOf
+  scan-live : tailScan s t .live ≤ t .live
+  unfolding tailScan
   scan-live = go (leb 1 (t .live) && leb (t .gap) 1)
     where
       go : (b : Bool) → pick b (record { start = s + 2 * t .gap; slots = t .slots; live = t .live }) (emptyScan s) .live ≤ t .live
@@ -185,16 +185,16 @@ module _ (s : ℕ) (t : Tail) where
       go false = omega arith
 
   -- which scans are kept
-  pub kept-few : (best : Scan) → t .live < 4 → best ≡ keptOf (scanOf s t) best
-  unfolding keptOf
-  kept-few best h = rw (lt-leb 4 (scanOf s t .live) (omega (arith, scan-live))) refl
+  pub kept-few : (best : Scan) → t .live < 4 → best ≡ strongerKept (tailScan s t) best
+  unfolding strongerKept
+  kept-few best h = rw (lt-leb 4 (tailScan s t .live) (omega (arith, scan-live))) refl
 
-  pub kept-far : (best : Scan) → 1 < t .gap → best ≡ keptOf (scanOf s t) best
-  unfolding keptOf
+  pub kept-far : (best : Scan) → 1 < t .gap → best ≡ strongerKept (tailScan s t) best
+  unfolding strongerKept
   kept-far best h = ap (λ (x : Scan). pick (leb 4 (x .live)) (stronger x best) best) (scan-far h)
 
-  pub kept-run : (best r : Scan) → 4 ≤ t .live → t .gap ≤ 1 → r ≡ stronger (record { start = s + 2 * t .gap; slots = t .slots; live = t .live }) best → r ≡ keptOf (scanOf s t) best
-  unfolding keptOf
+  pub kept-run : (best r : Scan) → 4 ≤ t .live → t .gap ≤ 1 → r ≡ stronger (record { start = s + 2 * t .gap; slots = t .slots; live = t .live }) best → r ≡ strongerKept (tailScan s t) best
+  unfolding strongerKept
   kept-run best r h k e =
       let run : Scan = record { start = s + 2 * t .gap; slots = t .slots; live = t .live } in
       e ∙ pick-le (stronger run best) best 4 (t .live) h ∙ ap (λ (x : Scan). pick (leb 4 (x .live)) (stronger x best) best) (scan-is (λ z. omega arith) k)
@@ -208,12 +208,12 @@ module _ (lim : ℕ) (p : List ℕ) (s : ℕ) where
   scan-empty a e = ap (scanAt lim p) (sym a) ∙ scan-eq refl (ap (λ (l : List ℕ). length (trim l)) e ∙ tally-none .1) (ap liveOf e ∙ tally-none .0)
 
   -- the run of offset w at `at`, where the scan from s reads it, and a tail t with its slots
-  scan-run : (at w : ℕ) (ws : List ℕ) (t : Tail) → at ≡ arrayStart lim p s → wordsFrom lim p at ≡ w ∷ ws → isOffset w ≡ true → t .gap ≤ 1 → at ≡ s + 2 * t .gap → t .slots ≡ joined w (tailOf ws) .slots → t .live ≡ joined w (tailOf ws) .live → scanFrom lim p s ≡ scanOf s t
+  scan-run : (at w : ℕ) (ws : List ℕ) (t : Tail) → at ≡ arrayStart lim p s → wordsFrom lim p at ≡ w ∷ ws → isOffset w ≡ true → t .gap ≤ 1 → at ≡ s + 2 * t .gap → t .slots ≡ extended w (tailOf ws) .slots → t .live ≡ extended w (tailOf ws) .live → scanFrom lim p s ≡ tailScan s t
   unfolding scanFrom slotsAt
   scan-run at w ws t a e o tg ta ts tl =
-      let k : Tally (opening (w ∷ ws)) (joined w (tailOf ws) .live) (joined w (tailOf ws) .gap + joined w (tailOf ws) .slots) = opening-tail w ws o in
-      let j : (joined w (tailOf ws) .gap ≡ 0) × (0 < joined w (tailOf ws) .live) = joined-offset w (tailOf ws) o in
-      let n : joined w (tailOf ws) .gap + joined w (tailOf ws) .slots ≡ joined w (tailOf ws) .slots = omega (arith, j .0) in
+      let k : Tally (opening (w ∷ ws)) (extended w (tailOf ws) .live) (extended w (tailOf ws) .gap + extended w (tailOf ws) .slots) = opening-tail w ws o in
+      let j : (extended w (tailOf ws) .gap ≡ 0) × (0 < extended w (tailOf ws) .live) = extended-offset w (tailOf ws) o in
+      let n : extended w (tailOf ws) .gap + extended w (tailOf ws) .slots ≡ extended w (tailOf ws) .slots = omega (arith, j .0) in
       ap (scanAt lim p) (sym a)
       ∙ scan-eq ta (ap (λ (l : List ℕ). length (trim (opening l))) e ∙ k .1 ∙ n ∙ sym ts) (ap (λ (l : List ℕ). liveOf (opening l)) e ∙ k .0 ∙ sym tl)
       ∙ scan-is s t (λ z. omega (arith, j .1)) tg
@@ -231,35 +231,35 @@ module _ (lim : ℕ) (p : List ℕ) (s : ℕ) where
   slots-end h = rw (words-end lim p s h) refl
 
   -- no pair at s
-  tail-none : lim ≤ s + 1 → scanFrom lim p s ≡ scanOf s (tailOf (wordsFrom lim p s))
+  tail-none : lim ≤ s + 1 → scanFrom lim p s ≡ tailScan s (tailOf (wordsFrom lim p s))
   unfolding tailOf
   tail-none h = scan-empty (start-near lim p s (omega arith)) (slots-end h) ∙ rw (words-end lim p s h) (scan-dead s noTail refl)
 
   module _ (le : lim ≤ length p) where
     -- a pair that is not zero
-    tail-live : (w : ℕ) → s + 1 < lim → w ≡ pairAt p s → (w ≡ 0 → ⊥) → scanFrom lim p s ≡ scanOf s (tailOf (w ∷ wordsFrom lim p (s + 2)))
+    tail-live : (w : ℕ) → s + 1 < lim → w ≡ pairAt p s → (w ≡ 0 → ⊥) → scanFrom lim p s ≡ tailScan s (tailOf (w ∷ wordsFrom lim p (s + 2)))
     unfolding tailOf
     tail-live w h e n = go (isOffset w) refl
       where
         ws : List ℕ
         ws = wordsFrom lim p (s + 2)
 
-        go : (b : Bool) → isOffset w ≡ b → scanFrom lim p s ≡ scanOf s (joined w (tailOf ws))
+        go : (b : Bool) → isOffset w ≡ b → scanFrom lim p s ≡ tailScan s (extended w (tailOf ws))
         go true o =
-            let g : joined w (tailOf ws) .gap ≡ 0 = joined-offset w (tailOf ws) o .0 in
-            scan-run s w ws (joined w (tailOf ws)) (start-live lim p s w e n) (words-here lim p s le w h e) o (omega arith) (omega arith) refl refl
+            let g : extended w (tailOf ws) .gap ≡ 0 = extended-offset w (tailOf ws) o .0 in
+            scan-run s w ws (extended w (tailOf ws)) (start-live lim p s w e n) (words-here lim p s le w h e) o (omega arith) (omega arith) refl refl
         go false o =
             scan-empty (start-live lim p s w e n) (opening-not w ws (words-here lim p s le w h e) o)
-            ∙ scan-dead s (joined w (tailOf ws)) (ap (λ (t : Tail). t .live) (sym (join-other w (tailOf ws) n o)))
+            ∙ scan-dead s (extended w (tailOf ws)) (ap (λ (t : Tail). t .live) (sym (extend-other w (tailOf ws) n o)))
 
     -- a zero pair, the last below the limit
-    tail-zero-last : (w : ℕ) → s + 1 < lim → lim ≤ s + 3 → w ≡ pairAt p s → w ≡ 0 → scanFrom lim p s ≡ scanOf s (tailOf (w ∷ wordsFrom lim p (s + 2)))
+    tail-zero-last : (w : ℕ) → s + 1 < lim → lim ≤ s + 3 → w ≡ pairAt p s → w ≡ 0 → scanFrom lim p s ≡ tailScan s (tailOf (w ∷ wordsFrom lim p (s + 2)))
     unfolding tailOf
     tail-zero-last w h k e z =
         let ws : List ℕ = wordsFrom lim p (s + 2) in
         let none : ws ≡ [] = words-end lim p (s + 2) (omega arith) in
         scan-empty (start-near lim p s k) (opening-not w ws (words-here lim p s le w h e) (ap isOffset z ∙ zero-not))
-        ∙ scan-dead s (joined w (tailOf ws)) (ap (λ (t : Tail). t .live) (sym (join-zero w (tailOf ws) z)) ∙ ap (λ (l : List ℕ). tailOf l .live) none)
+        ∙ scan-dead s (extended w (tailOf ws)) (ap (λ (t : Tail). t .live) (sym (extend-zero w (tailOf ws) z)) ∙ ap (λ (l : List ℕ). tailOf l .live) none)
 
     -- a zero pair before another pair v
     module _ (w v : ℕ) (h : s + 3 < lim) (e : w ≡ pairAt p s) (z : w ≡ 0) (d : v ≡ pairAt p (s + 2)) where
@@ -274,39 +274,39 @@ module _ (lim : ℕ) (p : List ℕ) (s : ℕ) where
       at-zero = words-here lim p s le w (omega arith) e ∙ ap (λ (l : List ℕ). w ∷ l) next
 
       behind : Tail
-      behind = joined v (tailOf after)
+      behind = extended v (tailOf after)
 
       farther : Tail
       farther = record { value = behind .value; gap = behind .gap + 1; slots = behind .slots; live = behind .live }
 
       zero-tail : tailOf (w ∷ v ∷ after) ≡ farther
       unfolding tailOf farther behind
-      zero-tail = sym (join-zero w (joined v (tailOf after)) z)
+      zero-tail = sym (extend-zero w (extended v (tailOf after)) z)
 
-      tail-zero-next : scanFrom lim p s ≡ scanOf s (tailOf (w ∷ v ∷ after))
+      tail-zero-next : scanFrom lim p s ≡ tailScan s (tailOf (w ∷ v ∷ after))
       unfolding farther behind
       tail-zero-next = rw zero-tail (go (isOffset v) refl (eqb v 0) refl)
         where
           none : isOffset v ≡ false → scanFrom lim p s ≡ emptyScan s
           none o = scan-empty (start-stays lim p s w v h e z d o) (opening-not w (v ∷ after) at-zero (ap isOffset z ∙ zero-not))
 
-          go : (b : Bool) → isOffset v ≡ b → (y : Bool) → eqb v 0 ≡ y → scanFrom lim p s ≡ scanOf s farther
+          go : (b : Bool) → isOffset v ≡ b → (y : Bool) → eqb v 0 ≡ y → scanFrom lim p s ≡ tailScan s farther
           go true o y q =
-              let g : behind .gap ≡ 0 = joined-offset v (tailOf after) o .0 in
+              let g : behind .gap ≡ 0 = extended-offset v (tailOf after) o .0 in
               scan-run (s + 2) v after farther (start-skips lim p s w v h e z d o) next o (omega arith) (omega arith) refl refl
           go false o true q =
-              let g : tailOf after .gap + 1 ≡ behind .gap = ap (λ (t : Tail). t .gap) (join-zero v (tailOf after) (eqb-true v 0 q)) in
+              let g : tailOf after .gap + 1 ≡ behind .gap = ap (λ (t : Tail). t .gap) (extend-zero v (tailOf after) (eqb-true v 0 q)) in
               none o ∙ scan-far s farther (omega arith)
-          go false o false q = none o ∙ scan-dead s farther (ap (λ (t : Tail). t .live) (sym (join-other v (tailOf after) (eqb-false v 0 q) o)))
+          go false o false q = none o ∙ scan-dead s farther (ap (λ (t : Tail). t .live) (sym (extend-other v (tailOf after) (eqb-false v 0 q) o)))
 
 -- every scan, by its tail
-pub scan-tail : (lim : ℕ) (p : List ℕ) (s : ℕ) → lim ≤ length p → scanFrom lim p s ≡ scanOf s (tailOf (wordsFrom lim p s))
+pub scan-tail : (lim : ℕ) (p : List ℕ) (s : ℕ) → lim ≤ length p → scanFrom lim p s ≡ tailScan s (tailOf (wordsFrom lim p s))
 scan-tail lim p s le = go (leb lim (s + 1)) refl (leb lim (s + 3)) refl (eqb (pairAt p s) 0) refl
   where
-    back : (l : List ℕ) → wordsFrom lim p s ≡ l → scanFrom lim p s ≡ scanOf s (tailOf l) → scanFrom lim p s ≡ scanOf s (tailOf (wordsFrom lim p s))
-    back l e q = q ∙ ap (λ (x : List ℕ). scanOf s (tailOf x)) (sym e)
+    back : (l : List ℕ) → wordsFrom lim p s ≡ l → scanFrom lim p s ≡ tailScan s (tailOf l) → scanFrom lim p s ≡ tailScan s (tailOf (wordsFrom lim p s))
+    back l e q = q ∙ ap (λ (x : List ℕ). tailScan s (tailOf x)) (sym e)
 
-    go : (a : Bool) → leb lim (s + 1) ≡ a → (b : Bool) → leb lim (s + 3) ≡ b → (c : Bool) → eqb (pairAt p s) 0 ≡ c → scanFrom lim p s ≡ scanOf s (tailOf (wordsFrom lim p s))
+    go : (a : Bool) → leb lim (s + 1) ≡ a → (b : Bool) → leb lim (s + 3) ≡ b → (c : Bool) → eqb (pairAt p s) 0 ≡ c → scanFrom lim p s ≡ tailScan s (tailOf (wordsFrom lim p s))
     go true qa b qb c qc = tail-none lim p s (leb-true lim (s + 1) qa)
     go false qa b qb false qc =
         let h : s + 1 < lim = leb-false lim (s + 1) qa in
@@ -323,9 +323,9 @@ pub tail-end : (lim : ℕ) (p : List ℕ) (s : ℕ) → lim ≤ s + 1 → noTail
 unfolding tailOf
 tail-end lim p s h = sym (ap tailOf (words-end lim p s h))
 
-pub tail-more : (lim : ℕ) (p : List ℕ) (s w : ℕ) (next r : Tail) → lim ≤ length p → s + 1 < lim → w ≡ pairAt p s → next ≡ tailOf (wordsFrom lim p (s + 2)) → r ≡ joined w next → r ≡ tailOf (wordsFrom lim p s)
+pub tail-more : (lim : ℕ) (p : List ℕ) (s w : ℕ) (next r : Tail) → lim ≤ length p → s + 1 < lim → w ≡ pairAt p s → next ≡ tailOf (wordsFrom lim p (s + 2)) → r ≡ extended w next → r ≡ tailOf (wordsFrom lim p s)
 unfolding tailOf
-tail-more lim p s w next r le h e f g = g ∙ ap (joined w) f ∙ sym (ap tailOf (words-here lim p s le w h e))
+tail-more lim p s w next r le h e f g = g ∙ ap (extended w) f ∙ sym (ap tailOf (words-here lim p s le w h e))
 
 -- a scan of fewer than four live slots counts as none
 pub counting : Scan → Scan
@@ -351,8 +351,8 @@ counting-directory b = go (leb 4 (b .live)) refl
     go true q = ap directoryOf (counting-four b (leb-true 4 (b .live) q))
     go false q = ap directoryOf (counting-few b (leb-false 4 (b .live) q)) ∙ rw q refl
 
-kept-counting : (c b : Scan) → keptOf c (counting b) ≡ counting (stronger c b)
-unfolding keptOf
+kept-counting : (c b : Scan) → strongerKept c (counting b) ≡ counting (stronger c b)
+unfolding strongerKept
 kept-counting c b = go (leb 4 (c .live)) refl (leb 4 (b .live)) refl (decide c b)
   where
     go : (x : Bool) → leb 4 (c .live) ≡ x → (y : Bool) → leb 4 (b .live) ≡ y → More c b ⊎ Not-more c b → pick x (stronger c (counting b)) (counting b) ≡ counting (stronger c b)
@@ -391,13 +391,13 @@ module _ (lim : ℕ) (p : List ℕ) (s r : ℕ) (near far : Tail) (best : Scan) 
   pub swept-next : far ≡ tailOf (wordsFrom lim p (r + 2))
   swept-next = let e : s + 1 ≡ r + 2 = omega arith in g .far-is ∙ ap (λ (k : ℕ). tailOf (wordsFrom lim p k)) e
 
-  pub swept-more : (t : Tail) (b : Scan) → lim ≤ length p → t ≡ tailOf (wordsFrom lim p r) → b ≡ keptOf (scanOf r t) best → Swept lim p r t near b
+  pub swept-more : (t : Tail) (b : Scan) → lim ≤ length p → t ≡ tailOf (wordsFrom lim p r) → b ≡ strongerKept (tailScan r t) best → Swept lim p r t near b
   swept-more t b le e q = record {
     within = omega (arith, g .within);
     near-is = e;
     far-is = g .near-is ∙ ap (λ (k : ℕ). tailOf (wordsFrom lim p k)) one;
     best-is =
-        q ∙ ap (λ (x : Scan). keptOf x best) (ap (scanOf r) e ∙ sym (scan-tail lim p r le)) ∙ ap (keptOf (scanFrom lim p r)) (g .best-is ∙ ap (λ (k : ℕ). counting (bestFrom lim p k (lim - k))) one)
+        q ∙ ap (λ (x : Scan). strongerKept x best) (ap (tailScan r) e ∙ sym (scan-tail lim p r le)) ∙ ap (strongerKept (scanFrom lim p r)) (g .best-is ∙ ap (λ (k : ℕ). counting (bestFrom lim p k (lim - k))) one)
         ∙ kept-counting (scanFrom lim p r) (bestFrom lim p (r + 1) (lim - (r + 1))) ∙ ap counting (from-more lim p r (omega (arith, g .within)));
   }
 

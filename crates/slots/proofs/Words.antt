@@ -2,7 +2,7 @@
 use Prim.Native.Nat.{ℕ, suc, _+_, _-_, _*_, _≤_, _<_}
 use mathlib.Core.Path.{_≡_, refl, sym, ap, _∙_}
 use mathlib.Core.List.{List, [], _∷_}
-use mathlib.Core.Bool.{Bool, true, false, _&&_, false≢true}
+use mathlib.Core.Bool.{true}
 use native.Mathlib.Omega.{arith}
 use native.Mathlib.Numerals.{add-one, add-two}
 use native.Mathlib.Nat.{le-of-suc-le-suc, not-suc-le-zero}
@@ -11,6 +11,7 @@ use lib.Seq.{drop-cons, getD-take, length-take-le}
 use lib.Dec.{ltb, leb}
 use borrow.Author.Tests.{leb-true, ltb-true}
 use Rattle.lists.specs.Bytes.{plainOf, pairAt}
+use Rattle.lists.proofs.Booleans.{and-left, and-right}
 use Rattle.lists.proofs.Plain.{plain-length}
 use Rattle.slots.specs.Slots.{isOffset, words, wordsFrom}
 
@@ -59,20 +60,13 @@ module _ (lim : ℕ) (p : List ℕ) (at : ℕ) where
   words-fit = omega (arith, length-below, words-half (drop at (take lim p)))
 
 module _ (w : ℕ) (o : isOffset w ≡ true) where
-  both : (leb 0x20 w ≡ true) × (ltb w 0xFF0 ≡ true)
-  unfolding isOffset
-  both = go (leb 0x20 w) (ltb w 0xFF0) refl refl o
-    where
-      go : (a b : Bool) → leb 0x20 w ≡ a → ltb w 0xFF0 ≡ b → (a && b) ≡ true → (leb 0x20 w ≡ true) × (ltb w 0xFF0 ≡ true)
-      go true true p q e = (p, q)
-      go true false p q e = absurd (false≢true e)
-      go false b p q e = absurd (false≢true e)
-
   pub offset-low : 0x20 ≤ w
-  offset-low = leb-true 0x20 w (both .0)
+  unfolding isOffset
+  offset-low = leb-true 0x20 w (and-left (leb 0x20 w) (ltb w 0xFF0) o)
 
   pub offset-high : w < 0xFF0
-  offset-high = ltb-true w 0xFF0 (both .1)
+  unfolding isOffset
+  offset-high = ltb-true w 0xFF0 (and-right (leb 0x20 w) (ltb w 0xFF0) o)
 
   pub offset-pos : w ≡ 0 → ⊥
   offset-pos z = omega (arith, offset-low)

@@ -1,5 +1,5 @@
--- Document 01, "Slots and rows": slot values, the scan, the row-count test and the prelude search, on the plain bytes `p` of a page. `lim` is
--- the search limit, 0x300 in the document. Assumes nothing.
+-- Document 01, "Slots and rows": slot values, the scan, the row-count test and the prelude search, on the bytes `plain` of a page. `lim` is
+-- the search limit. Assumes nothing.
 use Prim.Native.Nat.{ℕ, zero, suc, _+_, _-_, _*_, min}
 use mathlib.Core.List.{List, [], _∷_}
 use mathlib.Core.Bool.{Bool, true, false, _&&_, _||_, not}
@@ -14,7 +14,11 @@ use Rattle.slots.specs.declared.preludes.Run.{Run}
 use Rattle.slots.specs.declared.preludes.Prelude.{Prelude}
 use Rattle.slots.specs.declared.preludes.Prelude.the-variants.{Missing, Truncated, One, Several}
 
--- "a slot value is an offset if 0x20 <= value < 0xFF0"
+-- "from each start 0 to 0x2FF", "a field 0 to 0x2FF": the directory stands in the first 768 bytes, as slotted.rs's SEARCH_LIMIT has it
+abbrev pub searchLimit : ℕ
+searchLimit = 0x300
+
+-- "a slot value is an offset if 0x20 <= value < 0xFF0": slotted.rs's SLOT_OFFSET_MIN, and where the trailer starts
 unfoldable pub isOffset : ℕ → Bool
 isOffset v = leb 0x20 v && ltb v 0xFF0
 
@@ -25,7 +29,7 @@ words (a ∷ []) = []
 words (a ∷ b ∷ l) = (a + 256 * b) ∷ words l
 
 unfoldable pub wordsFrom : ℕ → List ℕ → ℕ → List ℕ
-wordsFrom lim p at = words (drop at (take lim p))
+wordsFrom lim plain at = words (drop at (take lim plain))
 
 -- strictly falling offsets below prev, and zeros among them
 unfoldable pub falling : ℕ → List ℕ → List ℕ
@@ -39,7 +43,7 @@ opening (w ∷ ws) = pick (isOffset w) (w ∷ falling w ws) []
 
 -- the slots at a position, below a limit
 unfoldable pub slotsAt : ℕ → List ℕ → ℕ → List ℕ
-slotsAt lim p at = opening (wordsFrom lim p at)
+slotsAt lim plain at = opening (wordsFrom lim plain at)
 
 -- "drop trailing zeros"
 unfoldable pub ontoTrimmed : ℕ → List ℕ → List ℕ
@@ -59,14 +63,14 @@ liveOf (suc x ∷ l) = suc (liveOf l)
 
 -- "skip one zero pair if pos + 3 < 0x300 and an offset follows": where the array of a scan from s stands
 unfoldable pub arrayStart : ℕ → List ℕ → ℕ → ℕ
-arrayStart lim p s = pick (ltb (s + 3) lim && (eqb (pairAt p s) 0 && isOffset (pairAt p (s + 2)))) (s + 2) s
+arrayStart lim plain s = pick (ltb (s + 3) lim && (eqb (pairAt plain s) 0 && isOffset (pairAt plain (s + 2)))) (s + 2) s
 
 -- the scan from s
 abbrev pub scanAt : ℕ → List ℕ → ℕ → Scan
-scanAt lim p at = record { start = at; slots = length (trim (slotsAt lim p at)); live = liveOf (slotsAt lim p at) }
+scanAt lim plain at = record { start = at; slots = length (trim (slotsAt lim plain at)); live = liveOf (slotsAt lim plain at) }
 
 unfoldable pub scanFrom : ℕ → List ℕ → ℕ → Scan
-scanFrom lim p s = scanAt lim p (arrayStart lim p s)
+scanFrom lim plain s = scanAt lim plain (arrayStart lim plain s)
 
 -- "most live, then most slots, then earliest start": c, of a later start than b, is taken only where it has more
 unfoldable pub stronger : Scan → Scan → Scan
@@ -76,40 +80,40 @@ abbrev pub noScan : Scan
 noScan = record { start = 0; slots = 0; live = 0 }
 
 -- the best of the scans from 0, .., n - 1
-unfoldable pub bestOf : ℕ → List ℕ → ℕ → Scan
-bestOf lim p zero = noScan
-bestOf lim p (suc n) = stronger (bestOf lim p n) (scanFrom lim p n)
+unfoldable pub bestScan : ℕ → List ℕ → ℕ → Scan
+bestScan lim plain zero = noScan
+bestScan lim plain (suc n) = stronger (bestScan lim plain n) (scanFrom lim plain n)
 
--- "fewer than 4 live gives nothing"
+-- "fewer than 4 live gives nothing": falling runs of that length are rare in random bytes, shorter ones are noise
 unfoldable pub directoryOf : Scan → Found
 directoryOf b = pick (leb 4 (b .live)) (Directory b) Nothing
 
 unfoldable pub scannedDirectory : ℕ → List ℕ → Found
-scannedDirectory lim p = directoryOf (bestOf lim p lim)
+scannedDirectory lim plain = directoryOf (bestScan lim plain lim)
 
 -- "array start >= back + 2 and the two bytes at start - back are the count and 0"
 unfoldable pub countedBack : List ℕ → ℕ → ℕ → ℕ → Bool
-countedBack p start n back = leb (back + 2) start && (eqb (byteAt p (start - back)) n && eqb (byteAt p (start - back + 1)) 0)
+countedBack plain start n back = leb (back + 2) start && (eqb (byteAt plain (start - back)) n && eqb (byteAt plain (start - back + 1)) 0)
 
 -- "a page without a scanned directory ends the row-count test at once"; "for back 6 or 4"
 unfoldable pub counted : List ℕ → ℕ → Found → Bool
-counted p n Nothing = false
-counted p n (Directory d) = countedBack p (d .start) n 6 || countedBack p (d .start) n 4
+counted plain n Nothing = false
+counted plain n (Directory d) = countedBack plain (d .start) n 6 || countedBack plain (d .start) n 4
 
 -- the row-count test of a row count n: "row count >= T and .."
 unfoldable pub rowCountMatches : ℕ → List ℕ → ℕ → ℕ → Bool
-rowCountMatches lim p n t = leb t n && counted p n (scannedDirectory lim p)
+rowCountMatches lim plain n t = leb t n && counted plain n (scannedDirectory lim plain)
 
 -- the same of a whole page, which has its row count at 0xFF0; another length answers no
 unfoldable pub pageMatches : ℕ → List ℕ → ℕ → Bool
-pageMatches lim p t = eqb (length p) 4096 && rowCountMatches lim p (byteAt p 0xFF0) t
+pageMatches lim plain t = eqb (length plain) 4096 && rowCountMatches lim plain (byteAt plain 0xFF0) t
 
 -- a prelude's slots: at most n from its start on, and none that reaches past the data
 abbrev pub dataEnd : List ℕ → ℕ
-dataEnd p = min (length p) 0xFF0
+dataEnd plain = min (length plain) 0xFF0
 
 unfoldable pub declaredSlots : List ℕ → ℕ → ℕ → List ℕ
-declaredSlots p n start = slotsAt (min (start + 2 * n) (dataEnd p)) p start
+declaredSlots plain n start = slotsAt (min (start + 2 * n) (dataEnd plain)) plain start
 
 abbrev pub runOf : List ℕ → Run
 runOf l = record { taken = length l; live = liveOf l }
@@ -135,17 +139,17 @@ noted n start r Several = Several
 
 -- "slots at field + 4, or at field + 6 if the pair at field + 4 is 0"
 unfoldable pub gapNoted : List ℕ → ℕ → ℕ → ℕ → Prelude → Prelude
-gapNoted p n field gap seen =
-    pick (eqb gap 4 || eqb (pairAt p (field + 4)) 0) (noted n (field + gap) (runOf (declaredSlots p n (field + gap))) seen) seen
+gapNoted plain n field gap seen =
+    pick (eqb gap 4 || eqb (pairAt plain (field + 4)) 0) (noted n (field + gap) (runOf (declaredSlots plain n (field + gap))) seen) seen
 
 -- "a field .. whose pair equals the row count n"; "gap 4 before 6"
 unfoldable pub fieldNoted : List ℕ → ℕ → ℕ → Prelude → Prelude
-fieldNoted p n field seen = pick (eqb (pairAt p field) n) (gapNoted p n field 6 (gapNoted p n field 4 seen)) seen
+fieldNoted plain n field seen = pick (eqb (pairAt plain field) n) (gapNoted plain n field 6 (gapNoted plain n field 4 seen)) seen
 
 -- "fields ascend": what the fields 0, .., lim - 1 show
 unfoldable pub preludeOf : ℕ → List ℕ → ℕ → Prelude
-preludeOf zero p n = Missing
-preludeOf (suc f) p n = fieldNoted p n f (preludeOf f p n)
+preludeOf zero plain n = Missing
+preludeOf (suc f) plain n = fieldNoted plain n f (preludeOf f plain n)
 
 -- the search is over once a second start was seen
 abbrev pub several : Prelude → Bool

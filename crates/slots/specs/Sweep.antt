@@ -1,4 +1,4 @@
--- What the scan keeps on its one pass from the limit down to 0. No part of the format: the scan's promise is `scannedDirectory`. Assumes nothing.
+-- private: no part of the rules. What the scan keeps on its one pass from the limit down to 0; its promise is `scannedDirectory`. Assumes nothing.
 use Prim.Native.Nat.{ℕ, zero, suc, _+_, _*_}
 use mathlib.Core.List.{List, [], _∷_}
 use mathlib.Core.Bool.{Bool, true, false, _&&_, _||_}
@@ -9,37 +9,37 @@ use Rattle.slots.specs.Slots.{isOffset, stronger}
 use Rattle.slots.specs.declared.scans.Scan.{Scan}
 use Rattle.slots.specs.declared.scans.Tail.{Tail}
 
--- no run: its value is above every offset, so that nothing joins it
+-- no run: its value is above every offset, so that nothing extends it
 abbrev pub noTail : Tail
 noTail = record { value = 0xFF0; gap = 0; slots = 0; live = 0 }
 
 -- the run at the first pair that is not zero: its value, the zero pairs before it, its slots and live slots.
 -- By whether w is zero, is an offset, and is above the offset that comes next
-abbrev pub joinedBy : Bool → Bool → Bool → ℕ → Tail → Tail
-joinedBy true b c w t = record { value = t .value; gap = t .gap + 1; slots = t .slots; live = t .live }
-joinedBy false false c w t = noTail
-joinedBy false true false w t = record { value = w; gap = 0; slots = 1; live = 1 }
-joinedBy false true true w t = record { value = w; gap = 0; slots = t .gap + t .slots + 1; live = t .live + 1 }
+abbrev pub extendedBy : Bool → Bool → Bool → ℕ → Tail → Tail
+extendedBy true b c w t = record { value = t .value; gap = t .gap + 1; slots = t .slots; live = t .live }
+extendedBy false false c w t = noTail
+extendedBy false true false w t = record { value = w; gap = 0; slots = 1; live = 1 }
+extendedBy false true true w t = record { value = w; gap = 0; slots = t .gap + t .slots + 1; live = t .live + 1 }
 
-unfoldable pub joined : ℕ → Tail → Tail
-joined w t = joinedBy (eqb w 0) (isOffset w) (ltb (t .value) w) w t
+unfoldable pub extended : ℕ → Tail → Tail
+extended w t = extendedBy (eqb w 0) (isOffset w) (ltb (t .value) w) w t
 
 unfoldable pub tailOf : List ℕ → Tail
 tailOf [] = noTail
-tailOf (w ∷ ws) = joined w (tailOf ws)
+tailOf (w ∷ ws) = extended w (tailOf ws)
 
 -- the scan from s, of the tail at s
 abbrev pub emptyScan : ℕ → Scan
 emptyScan s = record { start = s; slots = 0; live = 0 }
 
-unfoldable pub scanOf : ℕ → Tail → Scan
-scanOf s t = pick (leb 1 (t .live) && leb (t .gap) 1) (record { start = s + 2 * t .gap; slots = t .slots; live = t .live }) (emptyScan s)
+unfoldable pub tailScan : ℕ → Tail → Scan
+tailScan s t = pick (leb 1 (t .live) && leb (t .gap) 1) (record { start = s + 2 * t .gap; slots = t .slots; live = t .live }) (emptyScan s)
 
 -- the better of the scan from a start and the best of the later ones, if it has four live slots
-unfoldable pub keptOf : Scan → Scan → Scan
-keptOf b best = pick (leb 4 (b .live)) (stronger b best) best
+unfoldable pub strongerKept : Scan → Scan → Scan
+strongerKept b best = pick (leb 4 (b .live)) (stronger b best) best
 
 -- a and then b at one of the positions 0, .., n - 1: what the row-count test looks for before it scans
 unfoldable pub hasPair : ℕ → ℕ → List ℕ → ℕ → Bool
-hasPair a b p zero = false
-hasPair a b p (suc i) = hasPair a b p i || (eqb (byteAt p i) a && eqb (byteAt p (i + 1)) b)
+hasPair a b plain zero = false
+hasPair a b plain (suc i) = hasPair a b plain i || (eqb (byteAt plain i) a && eqb (byteAt plain (i + 1)) b)

@@ -5,11 +5,11 @@ use crate::scans::scanned_directory;
 use crate::values::plain_byte;
 ghost use mathlib.Core.Path.{_≡_};
 ghost use mathlib.Core.Bool.{_&&_};
-ghost use Prim.Native.Nat.{ℕ, _+_, _-_, _<_, _≤_, min};
+ghost use Prim.Native.Nat.{_+_, _-_, _<_, _≤_, min};
 ghost use lib.Dec.{eqb};
 ghost use lib.ListN.{length};
 ghost use Rattle.lists.specs.Bytes.{plainOf};
-ghost use Rattle.slots.specs.Slots.{countedBack, rowCountMatches, pageMatches};
+ghost use Rattle.slots.specs.Slots.{searchLimit, countedBack, rowCountMatches, pageMatches};
 ghost use Rattle.slots.specs.Sweep.{hasPair};
 
 // The test of a page's data less bv, with the stored row count n and T. Without the pair (n, 0) below the limit the answer is no, with
@@ -35,7 +35,7 @@ pub fn trailer_row_count_matches(bytes: &[u8], bv: u8, limit: usize, n: u8, t: u
 
 // The test of a whole plain page, which has its row count at 0xFF0.
 pub fn page_row_count_matches(plain: &[u8], t: u8) -> bool
-    ensures { λ r. ⌜ r ≡ pageMatches 0x300 (now (plain .entry)) t ⌝ }
+    ensures { λ r. ⌜ r ≡ pageMatches searchLimit (now (plain .entry)) t ⌝ }
 {
     if plain.len() != 4096 {
         return false;

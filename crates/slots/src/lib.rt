@@ -16,5 +16,5 @@ pub use scans::Found;
 pub use scans::Scan;
 pub use scans::scanned_directory;
 
-// Document 01's search limit.
+// The definition searchLimit: a directory is looked for in the first 768 bytes.
 pub const SEARCH_LIMIT: usize = 0x300;

@@ -1,9 +1,9 @@
 // The prelude search: fields that hold the row count, with a slot array behind them.
 use crate::values::is_offset;
 use crate::values::pair_at;
-use crate::values::wide;
+use numbers::wide;
 ghost use mathlib.Core.Path.{_≡_};
-ghost use Prim.Native.Nat.{ℕ, _+_, _*_, _-_, _<_, _≤_, min};
+ghost use Prim.Native.Nat.{_+_, _*_, _-_, _<_, _≤_, min};
 ghost use lib.ListN.{length};
 ghost use Rattle.lists.specs.Bytes.{plainOf};
 ghost use Rattle.slots.specs.Slots.{dataEnd, slotsAt, declaredSlots, runOf, whole, longer, firstNoted, noted, gapNoted, several, preludeOf};

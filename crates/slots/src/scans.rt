@@ -2,11 +2,11 @@
 use crate::values::is_offset;
 use crate::values::pair_at;
 ghost use mathlib.Core.Path.{_≡_};
-ghost use Prim.Native.Nat.{ℕ, _+_, _*_, _<_, _≤_};
+ghost use Prim.Native.Nat.{_+_, _*_, _<_, _≤_};
 ghost use lib.ListN.{length};
 ghost use Rattle.lists.specs.Bytes.{plainOf};
 ghost use Rattle.slots.specs.Slots.{wordsFrom, stronger, directoryOf, scannedDirectory};
-ghost use Rattle.slots.specs.Sweep.{noTail, joined, tailOf, scanOf, keptOf};
+ghost use Rattle.slots.specs.Sweep.{noTail, extended, tailOf, tailScan, strongerKept};
 
 // What a scan finds: where its array starts, its slots without trailing zeros, and how many of them are live. It ends at start + 2 * slots.
 pub struct Scan {
@@ -95,13 +95,13 @@ fn tail_at(bytes: &[u8], bv: u8, limit: usize, s: usize, next: Tail) -> Tail
     if limit <= s + 1 {
         return no_tail();
     }
-    join(pair_at(bytes, bv, s), next)
+    extend(pair_at(bytes, bv, s), next)
 }
 
 // The tail with one more pair before it.
-fn join(w: usize, t: Tail) -> Tail
+fn extend(w: usize, t: Tail) -> Tail
     requires { ⌜ (t .gap + t .slots < 9223372036854775808) × (t .live < 9223372036854775808) ⌝ }
-    ensures { λ r. ⌜ r ≡ joined w t ⌝ }
+    ensures { λ r. ⌜ r ≡ extended w t ⌝ }
 {
     let value = t.value;
     let gap = t.gap;
@@ -138,7 +138,7 @@ fn join(w: usize, t: Tail) -> Tail
 // live slots is left out at once: most starts end there.
 fn kept(s: usize, t: Tail, best: Scan) -> Scan
     requires { ⌜ s < 9223372036854775808 ⌝ }
-    ensures { λ r. ⌜ r ≡ keptOf (scanOf s t) best ⌝ }
+    ensures { λ r. ⌜ r ≡ strongerKept (tailScan s t) best ⌝ }
 {
     let gap = t.gap;
     let slots = t.slots;

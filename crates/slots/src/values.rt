@@ -1,4 +1,5 @@
 // Slot values, read from bytes less bv.
+use numbers::pair;
 ghost use mathlib.Core.Path.{_≡_};
 ghost use Prim.Native.Nat.{_+_, _<_};
 ghost use lib.ListN.{length};
@@ -11,18 +12,12 @@ pub(crate) fn plain_byte(b: u8, bv: u8) -> u8
     std::num::wrapping_sub_u8(b, bv)
 }
 
-pub(crate) fn wide(x: u8) -> usize
-    ensures { λ r. ⌜ (r ≡ x) × (r < 256) ⌝ }
-{
-    x as usize
-}
-
 // The pair of plain bytes at a position, the least first.
 pub(crate) fn pair_at(bytes: &[u8], bv: u8, i: usize) -> usize
     requires { ⌜ i + 1 < length (now bytes) ⌝ }
     ensures { λ r. ⌜ (r ≡ pairAt (plainOf bv (now (bytes .entry))) i) × (r < 65536) ⌝ }
 {
-    wide(plain_byte(bytes[i], bv)) + 256 * wide(plain_byte(bytes[i + 1], bv))
+    pair(plain_byte(bytes[i], bv), plain_byte(bytes[i + 1], bv)) as usize
 }
 
 pub(crate) fn is_offset(v: usize) -> bool

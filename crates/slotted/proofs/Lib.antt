@@ -1,8 +1,5 @@
--- Laws of the rows, of what the search finds, of the parse's decisions and tables; then what they mean.
-pub mod FarEnd
-pub mod Listing
-pub mod Deciding
-pub mod Tables
-pub mod Asking
-pub mod Starting
+-- Laws of what the search finds, of what the parse decides, of its answer with tables; then what they mean.
+pub mod Found
+pub mod Decisions
+pub mod Parses
 pub mod Meaning

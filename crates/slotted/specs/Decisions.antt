@@ -1,4 +1,4 @@
--- Document 01, "Slots and rows": what the parse decides of a plain page p, strictly or leniently, at the search limit `lim`. Assumes nothing.
+-- Document 01, "Slots and rows": what the parse decides of a plain page, strictly or leniently, at the search limit `lim`. Assumes nothing.
 use Prim.Native.Nat.{ℕ, _+_, _*_}
 use mathlib.Core.List.{List, [], _∷_}
 use mathlib.Core.Bool.{Bool, true, false}
@@ -17,7 +17,7 @@ use Rattle.answers.specs.declared.kinds.Reason.{Reason}
 use Rattle.answers.specs.declared.kinds.Reason.the-variants.{CountBelowFour, FewerThanEightLive, Unconfirmed}
 use Rattle.answers.specs.declared.notices.WarningKind.{WarningKind}
 use Rattle.answers.specs.declared.notices.WarningKind.the-variants as warning
-use Rattle.slotted.specs.Rows.{insideOf, Sound}
+use Rattle.slotted.specs.Directory.{insideOf, Sound}
 use Rattle.slotted.specs.declared.verdicts.Verdict.{Verdict}
 use Rattle.slotted.specs.declared.verdicts.Verdict.the-variants.{Accepted, WrongLength, NoDirectory, NoPrelude, Truncated, Ambiguous, OffsetInside}
 use Rattle.slotted.specs.declared.verdicts.Listed.{Listed}
@@ -26,88 +26,88 @@ use Rattle.slotted.specs.declared.verdicts.Decided.{Decided}
 
 -- the answers 0, 1 and 8 to 12, each with the page number
 abbrev pub answerOf : ℕ → Verdict → Answer
-answerOf page Accepted = answer.Accepted
-answerOf page (WrongLength n) = answer.WrongPageLength n
-answerOf page (NoDirectory reason) = answer.NoSlotDirectory page reason
-answerOf page NoPrelude = answer.UnknownPrelude page
-answerOf page (Truncated found expected stop) = answer.SlotDirectoryTruncated page found expected stop
-answerOf page Ambiguous = answer.AmbiguousSlotDirectory page
-answerOf page (OffsetInside offset end) = answer.SlotOffsetInDirectory page offset end
+answerOf number Accepted = answer.Accepted
+answerOf number (WrongLength n) = answer.WrongPageLength n
+answerOf number (NoDirectory reason) = answer.NoSlotDirectory number reason
+answerOf number NoPrelude = answer.UnknownPrelude number
+answerOf number (Truncated found expected stop) = answer.SlotDirectoryTruncated number found expected stop
+answerOf number Ambiguous = answer.AmbiguousSlotDirectory number
+answerOf number (OffsetInside offset end) = answer.SlotOffsetInDirectory number offset end
+
+-- where the listed slots start, and how many they are: where nothing is listed, none at 0
+abbrev pub startIn : Listed → ℕ
+startIn listed.Nothing = 0
+startIn (listed.Declared start count) = start
+startIn (listed.Scanned start count) = start
+
+abbrev pub countIn : Listed → ℕ
+countIn listed.Nothing = 0
+countIn (listed.Declared start count) = count
+countIn (listed.Scanned start count) = count
 
 -- "refusals .. drop warnings", and have no directory
-abbrev pub refusal : Verdict → Decided
-refusal v = record { verdict = v; listed = listed.Nothing; first = warning.Nothing; second = warning.Nothing; third = warning.Nothing }
+abbrev pub verdictRefused : Verdict → Decided
+verdictRefused v = record { verdict = v; listed = listed.Nothing; first = warning.Nothing; second = warning.Nothing; third = warning.Nothing }
 
-abbrev pub taken : Listed → WarningKind → WarningKind → Decided
-taken l first second = record { verdict = Accepted; listed = l; first = first; second = second; third = warning.Nothing }
+abbrev pub verdictTaken : Listed → WarningKind → WarningKind → Decided
+verdictTaken l first second = record { verdict = Accepted; listed = l; first = first; second = second; third = warning.Nothing }
 
 -- "n 1 to 3: always refused strictly (9 if no prelude, else 8); DIRECTORY takes a single one with a warning, and otherwise warns (9 or 11) and
 -- has no directory"
 abbrev pub fewOf : Prelude → ℕ → Bool → Decided
-fewOf prelude.Missing n false = refusal NoPrelude
-fewOf prelude.Missing n true = taken listed.Nothing warning.UnknownPrelude warning.Nothing
-fewOf (prelude.Truncated found stop) n false = refusal NoPrelude
-fewOf (prelude.Truncated found stop) n true = taken listed.Nothing warning.UnknownPrelude warning.Nothing
-fewOf (prelude.One s) n false = refusal (NoDirectory CountBelowFour)
-fewOf (prelude.One s) n true = taken (listed.Declared s n) warning.UnverifiedDirectory warning.Nothing
-fewOf prelude.Several n false = refusal (NoDirectory CountBelowFour)
-fewOf prelude.Several n true = taken listed.Nothing warning.AmbiguousSlotDirectory warning.Nothing
+fewOf prelude.Missing n false = verdictRefused NoPrelude
+fewOf prelude.Missing n true = verdictTaken listed.Nothing warning.UnknownPrelude warning.Nothing
+fewOf (prelude.Truncated found stop) n false = verdictRefused NoPrelude
+fewOf (prelude.Truncated found stop) n true = verdictTaken listed.Nothing warning.UnknownPrelude warning.Nothing
+fewOf (prelude.One s) n false = verdictRefused (NoDirectory CountBelowFour)
+fewOf (prelude.One s) n true = verdictTaken (listed.Declared s n) warning.UnverifiedDirectory warning.Nothing
+fewOf prelude.Several n false = verdictRefused (NoDirectory CountBelowFour)
+fewOf prelude.Several n true = verdictTaken listed.Nothing warning.AmbiguousSlotDirectory warning.Nothing
 
--- the reasons of 8 that a scan gives: "2 fewer than 8 live; 3 unconfirmed"
+-- the reasons of 8 that a scan gives: "2 fewer than 8 live; 3 unconfirmed". From 8 live slots on a scan counts as a directory
 abbrev pub reasonOf : ℕ → Reason
 reasonOf live = pick (ltb live 8) FewerThanEightLive Unconfirmed
 
 -- "the scan decides: found 8, not found 9"; with n = 0 "nothing found means no directory, accepted". Leniently `before` warns first, "then the
 -- scan's directory is used with a warning, or, if n >= 4 and there is none, 9 warns". `counted`: n is not 0
 abbrev pub unconfirmedOf : Found → Bool → Bool → WarningKind → Decided
-unconfirmedOf (scan.Directory d) false counted before = refusal (NoDirectory (reasonOf (d .live)))
-unconfirmedOf (scan.Directory d) true counted before = taken (listed.Scanned (d .start) (d .slots)) before warning.UnverifiedDirectory
-unconfirmedOf scan.Nothing lenient false before = taken listed.Nothing warning.Nothing warning.Nothing
-unconfirmedOf scan.Nothing false true before = refusal NoPrelude
-unconfirmedOf scan.Nothing true true before = taken listed.Nothing before warning.UnknownPrelude
+unconfirmedOf (scan.Directory d) false counted before = verdictRefused (NoDirectory (reasonOf (d .live)))
+unconfirmedOf (scan.Directory d) true counted before = verdictTaken (listed.Scanned (d .start) (d .slots)) before warning.UnverifiedDirectory
+unconfirmedOf scan.Nothing lenient false before = verdictTaken listed.Nothing warning.Nothing warning.Nothing
+unconfirmedOf scan.Nothing false true before = verdictRefused NoPrelude
+unconfirmedOf scan.Nothing true true before = verdictTaken listed.Nothing before warning.UnknownPrelude
 
 -- "n >= 4: one prelude is taken; none: 10 if truncated, else the scan decides ..; several: 11. Leniently .. 10 or 11 warns first"
 abbrev pub manyOf : Prelude → ℕ → Found → Bool → Decided
-manyOf (prelude.One s) n f lenient = taken (listed.Declared s n) warning.Nothing warning.Nothing
+manyOf (prelude.One s) n f lenient = verdictTaken (listed.Declared s n) warning.Nothing warning.Nothing
 manyOf prelude.Missing n f lenient = unconfirmedOf f lenient true warning.Nothing
-manyOf (prelude.Truncated found stop) n f false = refusal (Truncated found n stop)
+manyOf (prelude.Truncated found stop) n f false = verdictRefused (Truncated found n stop)
 manyOf (prelude.Truncated found stop) n f true = unconfirmedOf f true true (warning.SlotDirectoryTruncated found n)
-manyOf prelude.Several n f false = refusal Ambiguous
+manyOf prelude.Several n f false = verdictRefused Ambiguous
 manyOf prelude.Several n f true = unconfirmedOf f true true warning.AmbiguousSlotDirectory
 
 -- where the directory is, by the row count n
 unfoldable pub foundOf : ℕ → List ℕ → ℕ → Bool → Decided
-foundOf lim p n lenient =
-    pick (eqb n 0) (unconfirmedOf (scannedDirectory lim p) lenient false warning.Nothing)
-    (pick (ltb n 4) (fewOf (preludeOf lim p n) n lenient) (manyOf (preludeOf lim p n) n (scannedDirectory lim p) lenient))
+foundOf lim plain n lenient =
+    pick (eqb n 0) (unconfirmedOf (scannedDirectory lim plain) lenient false warning.Nothing)
+    (pick (ltb n 4) (fewOf (preludeOf lim plain n) n lenient) (manyOf (preludeOf lim plain n) n (scannedDirectory lim plain) lenient))
 
 -- "last, a live offset inside the directory: 12 with the first in slot order, or warned and dropped": one warning, with the number dropped
-abbrev pub checkedBy : Bool → Decided → ℕ → List ℕ → Decided
-checkedBy lenient d end [] = d
-checkedBy false d end (v ∷ l) = refusal (OffsetInside v end)
-checkedBy true d end (v ∷ l) = record { verdict = d .verdict; listed = d .listed; first = d .first; second = d .second; third = warning.SlotOffsetsInDirectory (length (v ∷ l)) }
+abbrev pub insideCheckedBy : Bool → Decided → ℕ → List ℕ → Decided
+insideCheckedBy lenient d end [] = d
+insideCheckedBy false d end (v ∷ l) = verdictRefused (OffsetInside v end)
+insideCheckedBy true d end (v ∷ l) =
+    record { verdict = d .verdict; listed = d .listed; first = d .first; second = d .second; third = warning.SlotOffsetsInDirectory (length (v ∷ l)) }
 
-unfoldable pub checkedAt : List ℕ → Bool → Decided → ℕ → ℕ → Decided
-checkedAt p lenient d start count = checkedBy lenient d (start + 2 * count) (insideOf p start count)
-
-abbrev pub checkedIn : List ℕ → Bool → Decided → Listed → Decided
-checkedIn p lenient d listed.Nothing = d
-checkedIn p lenient d (listed.Declared start count) = checkedAt p lenient d start count
-checkedIn p lenient d (listed.Scanned start count) = checkedAt p lenient d start count
-
-abbrev pub checkedOf : List ℕ → Bool → Decided → Decided
-checkedOf p lenient d = checkedIn p lenient d (d .listed)
+abbrev pub insideChecked : List ℕ → Bool → Decided → Decided
+insideChecked plain lenient d =
+    insideCheckedBy lenient d (startIn (d .listed) + 2 * countIn (d .listed)) (insideOf plain (startIn (d .listed)) (countIn (d .listed)))
 
 -- the parse: 1, then where the directory is, then the offsets inside it. The row count is at 0xFF0
 unfoldable pub decisionOf : ℕ → List ℕ → Bool → Decided
-decisionOf lim p lenient = pick (eqb (length p) 4096) (checkedOf p lenient (foundOf lim p (byteAt p 0xFF0) lenient)) (refusal (WrongLength (length p)))
-
--- something holds of the directory that is listed, where there is one
-abbrev pub ListedAs : (ℕ → ℕ → Type 0) → Listed → Type 0
-ListedAs P listed.Nothing = Unit {0}
-ListedAs P (listed.Declared start count) = P start count
-ListedAs P (listed.Scanned start count) = P start count
+decisionOf lim plain lenient =
+    pick (eqb (length plain) 4096) (insideChecked plain lenient (foundOf lim plain (byteAt plain 0xFF0) lenient)) (verdictRefused (WrongLength (length plain)))
 
 -- what is listed is a directory
 abbrev pub SoundIn : List ℕ → Listed → Type 0
-SoundIn p l = ListedAs (Sound p) l
+SoundIn plain l = Sound plain (startIn l) (countIn l)

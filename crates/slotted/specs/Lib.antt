@@ -1,5 +1,4 @@
--- The parse and the rows: the slots and rows of a directory, what the parse decides, its answer with tables, and a row's answer.
-pub mod Rows
+-- The parse: the slots of a directory, what the parse decides, and its answer with tables.
+pub mod Directory
 pub mod Decisions
 pub mod Parses
-pub mod RowAnswers

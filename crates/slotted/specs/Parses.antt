@@ -1,6 +1,6 @@
 -- The parse's answer: the directory with its table of 384 slots, and the warnings in a table of 386. Assumes nothing.
 use Prim.Native.Nat.{ℕ, _+_, _-_, _*_, min}
-use mathlib.Core.List.{List, [], _++_}
+use mathlib.Core.List.{List, _++_}
 use mathlib.Core.Bool.{Bool, true, false}
 use lib.Dec.{eqb}
 use lib.ListN.{length, replicate}
@@ -8,8 +8,8 @@ use Rattle.lists.specs.Cases.{pick}
 use Rattle.answers.specs.Warns.{warningNumber, noParseWarnings, withParseWarning}
 use Rattle.answers.specs.declared.notices.WarningKind.{WarningKind}
 use Rattle.answers.specs.declared.notices.ParseWarnings.{ParseWarnings}
-use Rattle.slotted.specs.Rows.{slotsOf}
-use Rattle.slotted.specs.Decisions.{answerOf, decisionOf}
+use Rattle.slotted.specs.Directory.{slotsOf}
+use Rattle.slotted.specs.Decisions.{answerOf, startIn, countIn, decisionOf}
 use Rattle.slotted.specs.declared.verdicts.Listed.{Listed}
 use Rattle.slotted.specs.declared.verdicts.Listed.the-variants as listed
 use Rattle.slotted.specs.declared.verdicts.Decided.{Decided}
@@ -22,19 +22,19 @@ use Rattle.slotted.specs.declared.directories.Parsed.{Parsed}
 abbrev pub tableOf : List ℕ → List ℕ
 tableOf l = l ++ replicate (384 - length l) 0
 
--- the fixed blank
-abbrev pub noDirectory : SlotDirectory
-noDirectory = record { «array_start» = 0; end = 0; slots = tableOf []; len = 0; declared = Scanned }
+-- the declared count, or none
+abbrev pub declaredIn : Listed → Declared
+declaredIn listed.Nothing = Scanned
+declaredIn (listed.Declared start count) = Count count
+declaredIn (listed.Scanned start count) = Scanned
 
--- array start, end, table of slots, length, declared count or none
+-- array start, end, table of slots, length, declared count or none; where nothing is listed, the blank one
 abbrev pub directoryAt : List ℕ → ℕ → ℕ → Declared → SlotDirectory
-directoryAt p start count how =
-    record { «array_start» = start; end = start + 2 * count; slots = tableOf (slotsOf p start (min count 384)); len = count; declared = how }
+directoryAt plain start count how =
+    record { «array_start» = start; end = start + 2 * count; slots = tableOf (slotsOf plain start (min count 384)); len = count; declared = how }
 
 abbrev pub directoryOf : List ℕ → Listed → SlotDirectory
-directoryOf p listed.Nothing = noDirectory
-directoryOf p (listed.Declared start count) = directoryAt p start count (Count count)
-directoryOf p (listed.Scanned start count) = directoryAt p start count Scanned
+directoryOf plain l = directoryAt plain (startIn l) (countIn l) (declaredIn l)
 
 abbrev pub isListed : Listed → Bool
 isListed listed.Nothing = false
@@ -43,13 +43,14 @@ isListed (listed.Scanned start count) = true
 
 -- one warning more, unless it is none
 unfoldable pub warned : ParseWarnings → ℕ → WarningKind → ParseWarnings
-warned t page kind = pick (eqb (warningNumber kind) 0) t (withParseWarning t page kind)
+warned t number kind = pick (eqb (warningNumber kind) 0) t (withParseWarning t number kind)
 
 abbrev pub warningsOf : ℕ → Decided → ParseWarnings
-warningsOf page d = warned (warned (warned noParseWarnings page (d .first)) page (d .second)) page (d .third)
+warningsOf number d = warned (warned (warned noParseWarnings number (d .first)) number (d .second)) number (d .third)
 
 abbrev pub parsedBy : ℕ → List ℕ → Decided → Parsed
-parsedBy page p d = record { answer = answerOf page (d .verdict); found = isListed (d .listed); directory = directoryOf p (d .listed); warnings = warningsOf page d }
+parsedBy number plain d =
+    record { answer = answerOf number (d .verdict); found = isListed (d .listed); directory = directoryOf plain (d .listed); warnings = warningsOf number d }
 
 unfoldable pub parsedOf : ℕ → ℕ → List ℕ → Bool → Parsed
-parsedOf lim page p lenient = parsedBy page p (decisionOf lim p lenient)
+parsedOf lim number plain lenient = parsedBy number plain (decisionOf lim plain lenient)

@@ -3,19 +3,20 @@ use crate::verdicts::Listed;
 use crate::verdicts::decide;
 use crate::verdicts::slot_at;
 use answers::Answer;
-use answers::Leniency;
+use answers::Options;
 use answers::ParseWarnings;
 use answers::WarningKind;
 use slots::SEARCH_LIMIT;
 ghost use mathlib.Core.Path.{_≡_};
 ghost use mathlib.Core.List.{[]};
-ghost use Prim.Native.Nat.{ℕ, _+_, _*_, _≤_, min};
+ghost use Prim.Native.Nat.{_+_, _*_, _≤_, min};
 ghost use lib.ListN.{length};
-ghost use Rattle.lists.specs.Bytes.{hasBit};
+ghost use Rattle.slots.specs.Slots.{searchLimit};
+ghost use Rattle.answers.specs.Settings.{directory};
 ghost use Rattle.answers.specs.Warns.{noParseWarnings};
-ghost use Rattle.slotted.specs.Rows.{slotsOf};
+ghost use Rattle.slotted.specs.Directory.{slotsOf};
 ghost use Rattle.slotted.specs.Decisions.{SoundIn};
-ghost use Rattle.slotted.specs.Parses.{tableOf, noDirectory, directoryAt, directoryOf, isListed, warned, parsedOf};
+ghost use Rattle.slotted.specs.Parses.{tableOf, directoryOf, declaredIn, isListed, warned, parsedOf};
 
 // How the directory was found: by a prelude that declares its count, or by the scan.
 pub enum Declared {
@@ -41,19 +42,19 @@ pub struct Parsed {
 }
 
 // The slot directory of a plain page.
-pub fn parse(page: u64, plain: &[u8], leniency: Leniency) -> Parsed
-    ensures { λ r. ⌜ r ≡ parsedOf 0x300 page (now (plain .entry)) (hasBit (leniency .bits) 2) ⌝ }
+pub fn parse(number: u64, plain: &[u8], options: Options) -> Parsed
+    ensures { λ r. ⌜ r ≡ parsedOf searchLimit number (now (plain .entry)) (directory options) ⌝ }
 {
-    let d = decide(plain, SEARCH_LIMIT, leniency.directory());
+    let d = decide(plain, SEARCH_LIMIT, options.directory());
     let verdict = d.verdict;
     let listed = d.listed;
     let first = d.first;
     let second = d.second;
     let third = d.third;
-    let answer = verdict.answer(page);
+    let answer = verdict.answer(number);
     let found = is_listed(listed);
     let directory = tabled(plain, listed);
-    let warnings = given(page, first, second, third);
+    let warnings = given(number, first, second, third);
     Parsed {
         answer,
         found,
@@ -63,45 +64,49 @@ pub fn parse(page: u64, plain: &[u8], leniency: Leniency) -> Parsed
 }
 
 // What the parse answers, with no table built.
-pub fn parse_answer(page: u64, plain: &[u8], leniency: Leniency) -> Answer
-    ensures { λ a. ⌜ a ≡ parsedOf 0x300 page (now (plain .entry)) (hasBit (leniency .bits) 2) .answer ⌝ }
+pub fn parse_answer(number: u64, plain: &[u8], options: Options) -> Answer
+    ensures { λ a. ⌜ a ≡ parsedOf searchLimit number (now (plain .entry)) (directory options) .answer ⌝ }
 {
-    let d = decide(plain, SEARCH_LIMIT, leniency.directory());
+    let d = decide(plain, SEARCH_LIMIT, options.directory());
     let verdict = d.verdict;
-    verdict.answer(page)
+    verdict.answer(number)
 }
 
 // The table of the warnings that were given. It is long, and most pages give none: it is then made in its place, and not moved.
-fn given(page: u64, first: WarningKind, second: WarningKind, third: WarningKind) -> ParseWarnings
-    ensures { λ r. ⌜ r ≡ warned (warned (warned noParseWarnings page first) page second) page third ⌝ }
+fn given(number: u64, first: WarningKind, second: WarningKind, third: WarningKind) -> ParseWarnings
+    ensures { λ r. ⌜ r ≡ warned (warned (warned noParseWarnings number first) number second) number third ⌝ }
 {
     if first.number() != 0 {
-        return listed(page, first, second, third);
+        return listed(number, first, second, third);
     }
     if second.number() != 0 {
-        return listed(page, first, second, third);
+        return listed(number, first, second, third);
     }
     if third.number() != 0 {
-        return listed(page, first, second, third);
+        return listed(number, first, second, third);
     }
     ParseWarnings::none()
 }
 
-fn listed(page: u64, first: WarningKind, second: WarningKind, third: WarningKind) -> ParseWarnings
-    ensures { λ r. ⌜ r ≡ warned (warned (warned noParseWarnings page first) page second) page third ⌝ }
+fn listed(number: u64, first: WarningKind, second: WarningKind, third: WarningKind) -> ParseWarnings
+    ensures { λ r. ⌜ r ≡ warned (warned (warned noParseWarnings number first) number second) number third ⌝ }
 {
     let none = ParseWarnings::none();
-    warn(warn(warn(none, page, first), page, second), page, third)
+    warn(
+        warn(warn(none, number, first), number, second),
+        number,
+        third,
+    )
 }
 
 // One warning more, unless it is `Nothing`.
-fn warn(warnings: ParseWarnings, page: u64, kind: WarningKind) -> ParseWarnings
-    ensures { λ r. ⌜ r ≡ warned warnings page kind ⌝ }
+fn warn(warnings: ParseWarnings, number: u64, kind: WarningKind) -> ParseWarnings
+    ensures { λ r. ⌜ r ≡ warned warnings number kind ⌝ }
 {
     if kind.number() == 0 {
         return warnings;
     }
-    warnings.with(page, kind)
+    warnings.with(number, kind)
 }
 
 fn is_listed(listed: Listed) -> bool
@@ -114,36 +119,24 @@ fn is_listed(listed: Listed) -> bool
     }
 }
 
+fn declared_in(listed: Listed) -> Declared
+    ensures { λ r. ⌜ r ≡ declaredIn listed ⌝ }
+{
+    match listed {
+        Listed::Nothing => Declared::Scanned,
+        Listed::Declared { start: _, count } => Declared::Count(count),
+        Listed::Scanned { start: _, count: _ } => Declared::Scanned,
+    }
+}
+
+// Where nothing is listed, a directory of no slots at 0: the blank one.
 fn tabled(plain: &[u8], listed: Listed) -> SlotDirectory
     requires { ⌜ SoundIn (now plain) listed ⌝ }
     ensures { λ r. ⌜ r ≡ directoryOf (now (plain .entry)) listed ⌝ }
 {
-    match listed {
-        Listed::Nothing => no_directory(),
-        Listed::Declared { start, count } => {
-            directory_at(plain, start, count, Declared::Count(count))
-        }
-        Listed::Scanned { start, count } => directory_at(plain, start, count, Declared::Scanned),
-    }
-}
-
-fn no_directory() -> SlotDirectory
-    ensures { λ r. ⌜ r ≡ noDirectory ⌝ }
-{
-    let slots = no_slots();
-    SlotDirectory {
-        array_start: 0,
-        end: 0,
-        slots,
-        len: 0,
-        declared: Declared::Scanned,
-    }
-}
-
-fn directory_at(plain: &[u8], start: usize, count: usize, declared: Declared) -> SlotDirectory
-    requires { ⌜ start + 2 * count ≤ length (now plain) ⌝ }
-    ensures { λ r. ⌜ r ≡ directoryAt (now (plain .entry)) start count declared ⌝ }
-{
+    let start = listed.start();
+    let count = listed.count();
+    let declared = declared_in(listed);
     let slots = slot_table(plain, start, count);
     SlotDirectory {
         array_start: start,
@@ -154,7 +147,8 @@ fn directory_at(plain: &[u8], start: usize, count: usize, declared: Declared) ->
     }
 }
 
-pub(crate) fn no_slots() -> [u16; 384]
+// An empty table of slots.
+pub fn no_slots() -> [u16; 384]
     ensures { λ r. ⌜ r ≡ tableOf [] ⌝ }
 {
     [0u16; 384]
@@ -169,7 +163,7 @@ fn slot_table(plain: &[u8], start: usize, count: usize) -> [u16; 384]
     let mut table = no_slots();
     let mut k: usize = 0;
     while k < room {
-        table[k] = slot_at(plain, start + 2 * k) as u16;
+        table[k] = slot_at(plain, start + 2 * k);
         k += 1;
     }
     table

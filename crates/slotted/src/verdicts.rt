@@ -1,23 +1,25 @@
-// What the parse decides, in small values: a refusal or a directory, and at most three warnings. No page number plays a part.
+// What the parse decides, in small values: a refusal or a directory, and at most three warnings. The page number plays no part.
 use answers::Answer;
 use answers::Reason;
 use answers::WarningKind;
+use numbers::pair;
 use slots::Found;
 use slots::Prelude;
 use slots::prelude_candidates;
 use slots::scanned_directory;
 ghost use mathlib.Core.Path.{_≡_};
-ghost use Prim.Native.Nat.{ℕ, _+_, _*_, _<_, _≤_};
+ghost use Prim.Native.Nat.{_+_, _*_, _<_, _≤_};
 ghost use lib.Dec.{eqb};
 ghost use lib.ListN.{length};
 ghost use Rattle.lists.specs.Cases.{pick};
 ghost use Rattle.lists.specs.Bytes.{pairAt};
 ghost use Rattle.slots.specs.Slots.{scannedDirectory};
 ghost use Rattle.slots.specs.declared.preludes.Prelude.the-variants.{Missing};
-ghost use Rattle.slotted.specs.Rows.{isInside, insideOf, tallyOf};
-ghost use Rattle.slotted.specs.Decisions.{answerOf, refusal, taken, fewOf, reasonOf, unconfirmedOf, manyOf, foundOf, SoundIn, checkedAt, checkedOf, decisionOf};
+ghost use Rattle.slotted.specs.Directory.{isInside, insideOf, tallyOf};
+ghost use Rattle.slotted.specs.Decisions.{answerOf, startIn, countIn, verdictRefused, verdictTaken, fewOf, reasonOf, unconfirmedOf};
+ghost use Rattle.slotted.specs.Decisions.{manyOf, foundOf, SoundIn, insideChecked, decisionOf};
 
-pub(crate) enum Verdict {
+pub enum Verdict {
     Accepted,
     WrongLength(usize),
     NoDirectory(Reason),
@@ -35,19 +37,19 @@ pub(crate) enum Verdict {
 }
 
 // Where the slots stand, and whether a prelude declared them or a scan found them.
-pub(crate) enum Listed {
+pub enum Listed {
     Nothing,
     Declared { start: usize, count: usize },
     Scanned { start: usize, count: usize },
 }
 
 // A warning that is `Nothing` is not given.
-pub(crate) struct Decided {
-    pub(crate) verdict: Verdict,
-    pub(crate) listed: Listed,
-    pub(crate) first: WarningKind,
-    pub(crate) second: WarningKind,
-    pub(crate) third: WarningKind,
+pub struct Decided {
+    pub verdict: Verdict,
+    pub listed: Listed,
+    pub first: WarningKind,
+    pub second: WarningKind,
+    pub third: WarningKind,
 }
 
 // The live offsets that point into the directory: the first in slot order, and how many.
@@ -57,34 +59,65 @@ pub(crate) struct Inside {
 }
 
 impl Verdict {
-    pub(crate) fn answer(self, page: u64) -> Answer
-        ensures { λ r. ⌜ r ≡ answerOf page self ⌝ }
+    pub fn answer(self, number: u64) -> Answer
+        ensures { λ r. ⌜ r ≡ answerOf number self ⌝ }
     {
         match self {
             Verdict::Accepted => Answer::Accepted,
             Verdict::WrongLength(length) => Answer::WrongPageLength(length),
-            Verdict::NoDirectory(reason) => Answer::NoSlotDirectory { page, reason },
-            Verdict::NoPrelude => Answer::UnknownPrelude(page),
+            Verdict::NoDirectory(reason) => Answer::NoSlotDirectory {
+                page: number,
+                reason,
+            },
+            Verdict::NoPrelude => Answer::UnknownPrelude(number),
             Verdict::Truncated {
                 found,
                 expected,
                 stop,
             } => Answer::SlotDirectoryTruncated {
-                page,
+                page: number,
                 found,
                 expected,
                 stop,
             },
-            Verdict::Ambiguous => Answer::AmbiguousSlotDirectory(page),
+            Verdict::Ambiguous => Answer::AmbiguousSlotDirectory(number),
             Verdict::OffsetInside { offset, end } => {
-                Answer::SlotOffsetInDirectory { page, offset, end }
+                Answer::SlotOffsetInDirectory {
+                    page: number,
+                    offset,
+                    end,
+                }
             }
         }
     }
 }
 
+impl Listed {
+    // Where the slots start; 0 where nothing is listed.
+    pub fn start(self) -> usize
+        ensures { λ r. ⌜ r ≡ startIn self ⌝ }
+    {
+        match self {
+            Listed::Nothing => 0,
+            Listed::Declared { start, count: _ } => start,
+            Listed::Scanned { start, count: _ } => start,
+        }
+    }
+
+    // How many slots there are: none where nothing is listed.
+    pub fn count(self) -> usize
+        ensures { λ r. ⌜ r ≡ countIn self ⌝ }
+    {
+        match self {
+            Listed::Nothing => 0,
+            Listed::Declared { start: _, count } => count,
+            Listed::Scanned { start: _, count } => count,
+        }
+    }
+}
+
 // The parse of a page, its checks in their order: the length, where the directory is, offsets inside it.
-pub(crate) fn decide(plain: &[u8], limit: usize, lenient: bool) -> Decided
+pub fn decide(plain: &[u8], limit: usize, lenient: bool) -> Decided
     ensures { λ r. ⌜ r ≡ decisionOf limit (now (plain .entry)) lenient ⌝ }
 {
     let length = plain.len();
@@ -96,7 +129,7 @@ pub(crate) fn decide(plain: &[u8], limit: usize, lenient: bool) -> Decided
 }
 
 fn refuse(verdict: Verdict) -> Decided
-    ensures { λ r. ⌜ r ≡ refusal verdict ⌝ }
+    ensures { λ r. ⌜ r ≡ verdictRefused verdict ⌝ }
 {
     Decided {
         verdict,
@@ -108,7 +141,7 @@ fn refuse(verdict: Verdict) -> Decided
 }
 
 fn take(listed: Listed, first: WarningKind, second: WarningKind) -> Decided
-    ensures { λ r. ⌜ r ≡ taken listed first second ⌝ }
+    ensures { λ r. ⌜ r ≡ verdictTaken listed first second ⌝ }
 {
     Decided {
         verdict: Verdict::Accepted,
@@ -269,20 +302,11 @@ fn reason(live: usize) -> Reason
 // Offsets inside the directory refuse the page, or are dropped with one warning.
 fn check_inside(plain: &[u8], lenient: bool, d: Decided) -> Decided
     requires { ⌜ SoundIn (now plain) (d .listed) ⌝ }
-    ensures { λ r. ⌜ r ≡ checkedOf (now (plain .entry)) lenient d ⌝ }
+    ensures { λ r. ⌜ r ≡ insideChecked (now (plain .entry)) lenient d ⌝ }
 {
     let listed = d.listed;
-    match listed {
-        Listed::Nothing => d,
-        Listed::Declared { start, count } => check_at(plain, lenient, d, start, count),
-        Listed::Scanned { start, count } => check_at(plain, lenient, d, start, count),
-    }
-}
-
-fn check_at(plain: &[u8], lenient: bool, d: Decided, start: usize, count: usize) -> Decided
-    requires { ⌜ start + 2 * count ≤ length (now plain) ⌝ }
-    ensures { λ r. ⌜ r ≡ checkedAt (now (plain .entry)) lenient d start count ⌝ }
-{
+    let start = listed.start();
+    let count = listed.count();
     let inside = inside_at(plain, start, count);
     if inside.dropped == 0 {
         return d;
@@ -294,7 +318,6 @@ fn check_at(plain: &[u8], lenient: bool, d: Decided, start: usize, count: usize)
         });
     }
     let verdict = d.verdict;
-    let listed = d.listed;
     let first = d.first;
     let second = d.second;
     Decided {
@@ -317,7 +340,7 @@ fn inside_at(plain: &[u8], start: usize, count: usize) -> Inside
     let mut dropped: usize = 0;
     let mut k: usize = 0;
     while k < count {
-        let v = slot_at(plain, start + 2 * k);
+        let v = slot_at(plain, start + 2 * k) as usize;
         if is_inside(start, stop, v) {
             first = earliest(dropped, first, v);
             dropped += 1;
@@ -347,15 +370,9 @@ fn is_inside(start: usize, stop: usize, v: usize) -> bool
     v < stop
 }
 
-fn wide(x: u8) -> usize
-    ensures { λ r. ⌜ (r ≡ x) × (r < 256) ⌝ }
-{
-    x as usize
-}
-
-pub(crate) fn slot_at(plain: &[u8], i: usize) -> usize
+pub(crate) fn slot_at(plain: &[u8], i: usize) -> u16
     requires { ⌜ i + 1 < length (now plain) ⌝ }
-    ensures { λ r. ⌜ (r ≡ pairAt (now (plain .entry)) i) × (r < 65536) ⌝ }
+    ensures { λ r. ⌜ r ≡ pairAt (now (plain .entry)) i ⌝ }
 {
-    wide(plain[i]) + 256 * wide(plain[i + 1])
+    pair(plain[i], plain[i + 1])
 }

@@ -1,6 +1,6 @@
 -- Laws of the summary of a page, and the theorems on replacement.
-pub mod Agree
+pub mod Replacements
 pub mod Parts
 pub mod Sectors
-pub mod Renewed
+pub mod Rescans
 pub mod Outcomes

@@ -10,9 +10,9 @@ use Rattle.answers.specs.declared.kinds.Answer.the-variants.{Accepted, WrongPag
 use Rattle.sector.specs.Byte.{offsetOf}
 use Rattle.sector.specs.Fit.{fitOf, sectorOf}
 use Rattle.sector.specs.declared.fits.Fit.{Fit}
-use Rattle.summary.specs.Page.{endOf, fitsOf, bytesOf, blankFits, checked, ifAccepted, scanOf, scanned}
+use Rattle.summary.specs.Page.{sectorEnd, fitsOf, bytesOf, blankFits, checked, ifAccepted, pageScanOf, scanned}
 use Rattle.summary.specs.Replace.{replaceAnswer, replaced, storedAfter, shiftedAfter}
-use Rattle.summary.specs.declared.pages.Scan.{Scan}
+use Rattle.summary.specs.declared.pages.PageScan.{PageScan}
 use Rattle.summary.specs.declared.replacing.Changed.{Changed}
 
 -- checks 1 and 2 of a scan
@@ -39,38 +39,38 @@ module _ (s : ℕ) (new : List ℕ) (n m : ℕ) where
       pub replace-sector : 8 ≤ s → BadReplacement s ≡ replaceAnswer s new n m
       replace-sector q = rw (eq-eqb n 4096 e, eq-eqb m 4080 h, le-ltb s 8 q)
 
-      pub replace-size : s < 8 → (length new ≡ endOf s - s * 512 → ⊥) → BadReplacement s ≡ replaceAnswer s new n m
-      replace-size q d = rw (eq-eqb n 4096 e, eq-eqb m 4080 h, lt-ltb s 8 q, ne-eqb (length new) (endOf s - s * 512) d)
+      pub replace-size : s < 8 → (length new ≡ sectorEnd s - s * 512 → ⊥) → BadReplacement s ≡ replaceAnswer s new n m
+      replace-size q d = rw (eq-eqb n 4096 e, eq-eqb m 4080 h, lt-ltb s 8 q, ne-eqb (length new) (sectorEnd s - s * 512) d)
 
-      pub replace-good : s < 8 → length new ≡ endOf s - s * 512 → Accepted ≡ replaceAnswer s new n m
-      replace-good q d = rw (eq-eqb n 4096 e, eq-eqb m 4080 h, lt-ltb s 8 q, eq-eqb (length new) (endOf s - s * 512) d)
+      pub replace-good : s < 8 → length new ≡ sectorEnd s - s * 512 → Accepted ≡ replaceAnswer s new n m
+      replace-good q d = rw (eq-eqb n 4096 e, eq-eqb m 4080 h, lt-ltb s 8 q, eq-eqb (length new) (sectorEnd s - s * 512) d)
 
 -- the parts of the contracts
-module _ (p : ℕ) (page buffer : List ℕ) (a : Answer) (e : a ≡ checked (length page) (length buffer) Accepted) where
-  pub scan-answer : _≡_ {A = Scan} (record { answer = a; fits = ifAccepted a (fitsOf p page) blankFits }) (scanOf p page (length buffer))
-  unfolding scanOf
-  scan-answer = ap (λ (x : Answer). record { answer = x; fits = ifAccepted x (fitsOf p page) blankFits }) e
+module _ (number : ℕ) (stored buffer : List ℕ) (a : Answer) (e : a ≡ checked (length stored) (length buffer) Accepted) where
+  pub scan-answer : _≡_ {A = PageScan} (record { answer = a; fits = ifAccepted a (fitsOf number stored) blankFits }) (pageScanOf number stored (length buffer))
+  unfolding pageScanOf
+  scan-answer = ap (λ (x : Answer). record { answer = x; fits = ifAccepted x (fitsOf number stored) blankFits }) e
 
-  pub scan-buffer : ifAccepted a (bytesOf p page) buffer ≡ scanned p page buffer
+  pub scan-buffer : ifAccepted a (bytesOf number stored) buffer ≡ scanned number stored buffer
   unfolding scanned
-  scan-buffer = ap (λ (x : Answer). ifAccepted x (bytesOf p page) buffer) e
+  scan-buffer = ap (λ (x : Answer). ifAccepted x (bytesOf number stored) buffer) e
 
 module _
-    (p s : ℕ)
+    (number s : ℕ)
     (new stored shifted : List ℕ)
     (fits : List Fit)
     (a : Answer)
     (e : a ≡ replaceAnswer s new (length stored) (length shifted))
   where
     pub replace-answer :
-        _≡_ {A = Changed} (record { answer = a; fits = ifAccepted a (set fits s (fitOf (offsetOf p s) new)) fits }) (replaced p s new (length stored) (length shifted) fits)
+        _≡_ {A = Changed} (record { answer = a; fits = ifAccepted a (set fits s (fitOf (offsetOf number s) new)) fits }) (replaced number s new (length stored) (length shifted) fits)
     unfolding replaced
-    replace-answer = ap (λ (x : Answer). record { answer = x; fits = ifAccepted x (set fits s (fitOf (offsetOf p s) new)) fits }) e
+    replace-answer = ap (λ (x : Answer). record { answer = x; fits = ifAccepted x (set fits s (fitOf (offsetOf number s) new)) fits }) e
 
     pub replace-stored : ifAccepted a (over stored (s * 512) new) stored ≡ storedAfter s new stored (length shifted)
     unfolding storedAfter
     replace-stored = ap (λ (x : Answer). ifAccepted x (over stored (s * 512) new) stored) e
 
-    pub replace-shifted : ifAccepted a (over shifted (s * 512) (sectorOf (offsetOf p s) new)) shifted ≡ shiftedAfter p s new (length stored) shifted
+    pub replace-shifted : ifAccepted a (over shifted (s * 512) (sectorOf (offsetOf number s) new)) shifted ≡ shiftedAfter number s new (length stored) shifted
     unfolding shiftedAfter
-    replace-shifted = ap (λ (x : Answer). ifAccepted x (over shifted (s * 512) (sectorOf (offsetOf p s) new)) shifted) e
+    replace-shifted = ap (λ (x : Answer). ifAccepted x (over shifted (s * 512) (sectorOf (offsetOf number s) new)) shifted) e

@@ -11,30 +11,30 @@ use lib.Seq.{getD-append-add, ext-getD, getD-take, getD-drop}
 use Rattle.lists.specs.Pieces.{joined, over}
 use Rattle.lists.proofs.Joined.{joined-ext}
 use Rattle.lists.proofs.Over.{over-length, over-here, over-before, over-after, over-last, over-append}
-use Rattle.summary.specs.Page.{endOf, part}
+use Rattle.summary.specs.Page.{sectorEnd, part}
 
 -- sector s of a list that is long enough
-pub part-length : (l : List ℕ) (s : ℕ) → 4080 ≤ length l → length (part s l) ≡ endOf s - s * 512
+pub part-length : (l : List ℕ) (s : ℕ) → 4080 ≤ length l → length (part s l) ≡ sectorEnd s - s * 512
 unfolding part
 part-length l s h = simp (length-take, length-drop) (omega arith)
 
 -- one piece for each sector, as long as the sector
 pub record Sized (f : ℕ → List ℕ) : Type 0 where
-  pub at : (s : ℕ) → s < 8 → length (f s) ≡ endOf s - s * 512
+  pub at : (s : ℕ) → s < 8 → length (f s) ≡ sectorEnd s - s * 512
 
-pub joined-length : (f : ℕ → List ℕ) (n : ℕ) → Sized f → n ≤ 8 → length (joined f n) ≡ min (n * 512) 4080
+pub sized-length : (f : ℕ → List ℕ) (n : ℕ) → Sized f → n ≤ 8 → length (joined f n) ≡ min (n * 512) 4080
 unfolding joined
-joined-length f zero z h = refl
-joined-length f (suc n) z h =
-    length-append (joined f n) (f n) ∙ omega (arith, joined-length f n z (omega arith), z .at n (omega arith))
+sized-length f zero z h = refl
+sized-length f (suc n) z h =
+    length-append (joined f n) (f n) ∙ omega (arith, sized-length f n z (omega arith), z .at n (omega arith))
 
 -- byte i of piece s is byte s * 512 + i of the whole
 pub joined-at :
-    (f : ℕ → List ℕ) → Sized f → (n s i : ℕ) → s < n → n ≤ 8 → i < endOf s - s * 512 → getD (joined f n) (s * 512 + i) 0 ≡ getD (f s) i 0
+    (f : ℕ → List ℕ) → Sized f → (n s i : ℕ) → s < n → n ≤ 8 → i < sectorEnd s - s * 512 → getD (joined f n) (s * 512 + i) 0 ≡ getD (f s) i 0
 unfolding joined
 joined-at f z zero s i h m k = absurd (not-suc-le-zero h)
 joined-at f z (suc n) s i h m k =
-    let long : length (joined f n) ≡ min (n * 512) 4080 = joined-length f n z (omega arith) in
+    let long : length (joined f n) ≡ min (n * 512) 4080 = sized-length f n z (omega arith) in
     ⊎-elim
     (λ e.
     let q : s * 512 + i ≡ length (joined f n) + i = omega (arith, ap (λ (x : ℕ). x * 512) e) in
@@ -46,9 +46,9 @@ joined-at f z (suc n) s i h m k =
 pub joined-part : (f : ℕ → List ℕ) → Sized f → (s : ℕ) → s < 8 → part s (joined f 8) ≡ f s
 unfolding part
 joined-part f z s h =
-    let n : ℕ = endOf s - s * 512 in
+    let n : ℕ = sectorEnd s - s * 512 in
     let l : List ℕ = joined f 8 in
-    let long : length (take n (drop (s * 512) l)) ≡ n = simp (length-take, length-drop) (omega (arith, joined-length f 8 z (omega arith))) in
+    let long : length (take n (drop (s * 512) l)) ≡ n = simp (length-take, length-drop) (omega (arith, sized-length f 8 z (omega arith))) in
     ext-getD 0 (take n (drop (s * 512) l)) (f s) (long ∙ sym (z .at s h))
     (λ i q.
     let k : i < n = omega (arith, long) in
@@ -58,7 +58,7 @@ joined-part f z s h =
 pub joined-over :
     (f g : ℕ → List ℕ) (n s : ℕ)
     → Sized f
-    → length (g s) ≡ endOf s - s * 512
+    → length (g s) ≡ sectorEnd s - s * 512
     → s < n
     → n ≤ 8
     → ((t : ℕ) → t < n → (t ≡ s → ⊥) → f t ≡ g t)
@@ -73,15 +73,15 @@ joined-over f g (suc n) s z k hs hn h = go (joined-over f g n s z k) (ℕ-discre
         → over (joined f n ++ f n) (s * 512) (g s) ≡ joined g n ++ g n
     go ih (yes e) =
         let q : length (f n) ≡ length (f s) = ap (λ (t : ℕ). length (f t)) e in
-        over-last (joined f n) (f n) (g s) (s * 512) (omega (arith, joined-length f n z (omega arith))) (omega (arith, z .at s (omega arith)))
+        over-last (joined f n) (f n) (g s) (s * 512) (omega (arith, sized-length f n z (omega arith))) (omega (arith, z .at s (omega arith)))
         ∙ ap₂ (λ (l x : List ℕ). l ++ x) (joined-ext f g n (λ t q. h t (omega arith) (omega arith))) (ap g (sym e))
     go ih (no ne) =
         let hs' : s < n = omega arith in
-        over-append (joined f n) (f n) (g s) (s * 512) (omega (arith, joined-length f n z (omega arith)))
+        over-append (joined f n) (f n) (g s) (s * 512) (omega (arith, sized-length f n z (omega arith)))
         ∙ ap₂ (λ (l x : List ℕ). l ++ x) (ih hs' (omega arith) (λ t q d. h t (omega arith) d)) (h n (omega arith) ne)
 
 -- a page, or a page's shifted bytes, of which sector s is written over
-module _ (l new : List ℕ) (s : ℕ) (hs : s < 8) (hl : 4080 ≤ length l) (hn : length new ≡ endOf s - s * 512) where
+module _ (l new : List ℕ) (s : ℕ) (hs : s < 8) (hl : 4080 ≤ length l) (hn : length new ≡ sectorEnd s - s * 512) where
   room : s * 512 + length new ≤ length l
   room = omega arith
 
@@ -96,9 +96,9 @@ module _ (l new : List ℕ) (s : ℕ) (hs : s < 8) (hl : 4080 ≤ length l) (hn 
   unfolding part
   part-other t h ne = go (decLt t s)
     where
-      go : Dec (t < s) → take (endOf t - t * 512) (drop (t * 512) (over l (s * 512) new)) ≡ take (endOf t - t * 512) (drop (t * 512) l)
-      go (yes q) = over-before l new (s * 512) room (t * 512) (endOf t - t * 512) (omega arith)
-      go (no q) = ap (take (endOf t - t * 512)) (over-after l new (s * 512) room (t * 512) (omega arith))
+      go : Dec (t < s) → take (sectorEnd t - t * 512) (drop (t * 512) (over l (s * 512) new)) ≡ take (sectorEnd t - t * 512) (drop (t * 512) l)
+      go (yes q) = over-before l new (s * 512) room (t * 512) (sectorEnd t - t * 512) (omega arith)
+      go (no q) = ap (take (sectorEnd t - t * 512)) (over-after l new (s * 512) room (t * 512) (omega arith))
 
   -- what stands after the eight sectors: the trailer
   pub trailer-kept : drop 4080 (over l (s * 512) new) ≡ drop 4080 l

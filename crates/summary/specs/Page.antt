@@ -12,28 +12,28 @@ use Rattle.sector.specs.Byte.{offsetOf}
 use Rattle.sector.specs.Fit.{fitOf, sectorOf}
 use Rattle.sector.specs.Scan.{blankFit}
 use Rattle.sector.specs.declared.fits.Fit.{Fit}
-use Rattle.summary.specs.declared.pages.Scan.{Scan}
+use Rattle.summary.specs.declared.pages.PageScan.{PageScan}
 
 -- sectors 0 to 6 have 512 bytes, sector 7 has 496: where sector s ends, and its bytes, of a page or of a page's shifted bytes
-abbrev pub endOf : ℕ → ℕ
-endOf s = min (s * 512 + 512) 4080
+abbrev pub sectorEnd : ℕ → ℕ
+sectorEnd s = min (s * 512 + 512) 4080
 
 unfoldable pub part : ℕ → List ℕ → List ℕ
-part s bytes = take (endOf s - s * 512) (drop (s * 512) bytes)
+part s bytes = take (sectorEnd s - s * 512) (drop (s * 512) bytes)
 
--- the fit and the shifted bytes of sector s of page number p
+-- the fit and the shifted bytes of sector s of a stored page
 unfoldable pub fitAt : ℕ → List ℕ → ℕ → Fit
-fitAt p page s = fitOf (offsetOf p s) (part s page)
+fitAt number stored s = fitOf (offsetOf number s) (part s stored)
 
 unfoldable pub bytesAt : ℕ → List ℕ → ℕ → List ℕ
-bytesAt p page s = sectorOf (offsetOf p s) (part s page)
+bytesAt number stored s = sectorOf (offsetOf number s) (part s stored)
 
 -- the summary of a page
 abbrev pub fitsOf : ℕ → List ℕ → List Fit
-fitsOf p page = each (fitAt p page) 8
+fitsOf number stored = each (fitAt number stored) 8
 
 abbrev pub bytesOf : ℕ → List ℕ → List ℕ
-bytesOf p page = joined (bytesAt p page) 8
+bytesOf number stored = joined (bytesAt number stored) 8
 
 -- the fits of a refused scan
 abbrev pub blankFits : List Fit
@@ -48,11 +48,11 @@ abbrev pub ifAccepted : {A : Type 0} → Answer → A → A → A
 ifAccepted a x y = pick (isAccepted a) x y
 
 -- a scan's answer and fits, for a buffer of m bytes
-unfoldable pub scanOf : ℕ → List ℕ → ℕ → Scan
-scanOf p page m =
-    let a : Answer = checked (length page) m Accepted in
-    record { answer = a; fits = ifAccepted a (fitsOf p page) blankFits }
+unfoldable pub pageScanOf : ℕ → List ℕ → ℕ → PageScan
+pageScanOf number stored m =
+    let a : Answer = checked (length stored) m Accepted in
+    record { answer = a; fits = ifAccepted a (fitsOf number stored) blankFits }
 
 -- and what the buffer holds afterwards: a refusal writes nothing
 unfoldable pub scanned : ℕ → List ℕ → List ℕ → List ℕ
-scanned p page buffer = ifAccepted (checked (length page) (length buffer) Accepted) (bytesOf p page) buffer
+scanned number stored buffer = ifAccepted (checked (length stored) (length buffer) Accepted) (bytesOf number stored) buffer

@@ -1,4 +1,5 @@
--- The sectors first, .., first + n - 1 of a summary scanned anew, all others kept. Assumes nothing.
+-- Private: no part of the rules. What `rescan` promises: the sectors first, .., first + n - 1 of a summary scanned anew, all others kept.
+-- Assumes nothing.
 use Prim.Native.Nat.{ℕ, zero, suc, _+_, _*_}
 use mathlib.Core.List.{List}
 use lib.ListN.{set}
@@ -7,9 +8,9 @@ use Rattle.sector.specs.declared.fits.Fit.{Fit}
 use Rattle.summary.specs.Page.{fitAt, bytesAt}
 
 unfoldable pub refitted : ℕ → List ℕ → ℕ → List Fit → ℕ → List Fit
-refitted p page first fits zero = fits
-refitted p page first fits (suc n) = set (refitted p page first fits n) (first + n) (fitAt p page (first + n))
+refitted number stored first fits zero = fits
+refitted number stored first fits (suc n) = set (refitted number stored first fits n) (first + n) (fitAt number stored (first + n))
 
 unfoldable pub reshifted : ℕ → List ℕ → ℕ → List ℕ → ℕ → List ℕ
-reshifted p page first shifted zero = shifted
-reshifted p page first shifted (suc n) = over (reshifted p page first shifted n) ((first + n) * 512) (bytesAt p page (first + n))
+reshifted number stored first shifted zero = shifted
+reshifted number stored first shifted (suc n) = over (reshifted number stored first shifted n) ((first + n) * 512) (bytesAt number stored (first + n))

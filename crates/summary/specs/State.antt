@@ -7,7 +7,7 @@ use Rattle.sector.specs.Byte.{offsetOf}
 use Rattle.sector.specs.Fit.{fitOf, sectorOf}
 use Rattle.sector.specs.Scan.{blankFit}
 use Rattle.sector.specs.declared.fits.Fit.{Fit}
-use Rattle.summary.specs.Page.{endOf, part, fitsOf, bytesOf, scanOf, scanned}
+use Rattle.summary.specs.Page.{sectorEnd, part, fitsOf, bytesOf, pageScanOf, scanned}
 use Rattle.summary.specs.Replace.{replaced, storedAfter, shiftedAfter}
 
 pub record State : Type 0 where
@@ -21,39 +21,39 @@ pub record Replacement : Type 0 where
 
 -- what `scan_page` makes of a page and a lent buffer
 abbrev pub atScan : ℕ → List ℕ → List ℕ → State
-atScan p page buffer = record { stored = page; shifted = scanned p page buffer; fits = scanOf p page (length buffer) .fits }
+atScan number stored buffer = record { stored = stored; shifted = scanned number stored buffer; fits = pageScanOf number stored (length buffer) .fits }
 
 -- what `replace_sector` makes of a state
 unfoldable pub after : ℕ → State → Replacement → State
-after p t r =
+after number t r =
     record {
       stored = storedAfter (r .sector) (r .new) (t .stored) (length (t .shifted));
-      shifted = shiftedAfter p (r .sector) (r .new) (length (t .stored)) (t .shifted);
-      fits = replaced p (r .sector) (r .new) (length (t .stored)) (length (t .shifted)) (t .fits) .fits;
+      shifted = shiftedAfter number (r .sector) (r .new) (length (t .stored)) (t .shifted);
+      fits = replaced number (r .sector) (r .new) (length (t .stored)) (length (t .shifted)) (t .fits) .fits;
     }
 
 -- one after the other
 unfoldable pub afterAll : ℕ → State → List Replacement → State
-afterAll p t [] = t
-afterAll p t (r ∷ rs) = afterAll p (after p t r) rs
+afterAll number t [] = t
+afterAll number t (r ∷ rs) = afterAll number (after number t r) rs
 
 -- the page is whole, and the summary beside it is its own
-pub record Fresh (p : ℕ) (t : State) : Type 0 where
+pub record Fresh (number : ℕ) (t : State) : Type 0 where
   pub whole : length (t .stored) ≡ 4096
-  pub bytes : t .shifted ≡ bytesOf p (t .stored)
-  pub kept : t .fits ≡ fitsOf p (t .stored)
+  pub bytes : t .shifted ≡ bytesOf number (t .stored)
+  pub kept : t .fits ≡ fitsOf number (t .stored)
 
 -- a replacement that is accepted: checks 1, 2 and 14 pass
 pub record Taken (t : State) (r : Replacement) : Type 0 where
-  pub page : length (t .stored) ≡ 4096
+  pub whole : length (t .stored) ≡ 4096
   pub buffer : length (t .shifted) ≡ 4080
   pub within : r .sector < 8
-  pub sized : length (r .new) ≡ endOf (r .sector) - r .sector * 512
+  pub sized : length (r .new) ≡ sectorEnd (r .sector) - r .sector * 512
 
 -- from t to u one sector alone changed: its fit, shifted bytes and stored bytes are those of the new bytes, and all else is as it was
-pub record OneSector (p : ℕ) (r : Replacement) (t u : State) : Type 0 where
-  pub fit-new : getD (u .fits) (r .sector) blankFit ≡ fitOf (offsetOf p (r .sector)) (r .new)
-  pub shifted-new : part (r .sector) (u .shifted) ≡ sectorOf (offsetOf p (r .sector)) (r .new)
+pub record OneSector (number : ℕ) (r : Replacement) (t u : State) : Type 0 where
+  pub fit-new : getD (u .fits) (r .sector) blankFit ≡ fitOf (offsetOf number (r .sector)) (r .new)
+  pub shifted-new : part (r .sector) (u .shifted) ≡ sectorOf (offsetOf number (r .sector)) (r .new)
   pub stored-new : part (r .sector) (u .stored) ≡ r .new
   pub fits-kept : (k : ℕ) → (k ≡ r .sector → ⊥) → getD (u .fits) k blankFit ≡ getD (t .fits) k blankFit
   pub shifted-kept : (k : ℕ) → k < 8 → (k ≡ r .sector → ⊥) → part k (u .shifted) ≡ part k (t .shifted)

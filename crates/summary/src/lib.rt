@@ -5,7 +5,8 @@ mod pages;
 mod replacing;
 mod rescan;
 
-pub use pages::Scan;
+pub use pages::PageScan;
+pub use pages::blank_fits;
 pub use pages::scan_page;
 pub use pages::sector_end;
 pub use replacing::Changed;

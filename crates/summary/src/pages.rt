@@ -1,37 +1,38 @@
 // The scan of a page.
 ghost use mathlib.Core.Path.{_≡_};
 ghost use lib.ListN.{length};
-ghost use Rattle.summary.specs.Page.{endOf, blankFits, scanOf, scanned};
+ghost use Rattle.summary.specs.Page.{sectorEnd, blankFits, pageScanOf, scanned};
 use answers::Answer;
 use sector::Fit;
 
 // The answer, and the eight fits; of a refusal, eight blank ones.
-pub struct Scan {
+pub struct PageScan {
     pub answer: Answer,
     pub fits: [Fit; 8],
 }
 
 // The fits of a stored page; its shifted bytes go into `shifted`. An all-zero page is scanned like any other; a refusal writes nothing.
-pub fn scan_page(page: u64, stored: &[u8], shifted: &mut [u8]) -> Scan
-    ensures { λ r. ⌜ (r ≡ scanOf page (now (stored .entry)) (length (now (shifted .entry)))) × (now (shifted .exit) ≡ scanned page (now (stored .entry)) (now (shifted .entry))) ⌝ }
+pub fn scan_page(number: u64, stored: &[u8], shifted: &mut [u8]) -> PageScan
+    ensures { λ r. ⌜ r ≡ pageScanOf number (now (stored .entry)) (length (now (shifted .entry))) ⌝ }
+    ensures { λ r. ⌜ now (shifted .exit) ≡ scanned number (now (stored .entry)) (now (shifted .entry)) ⌝ }
 {
     let blank = blank_fits();
     let n = stored.len();
     if n != 4096 {
-        return Scan {
+        return PageScan {
             answer: Answer::WrongPageLength(n),
             fits: blank,
         };
     }
     let m = shifted.len();
     if m != 4080 {
-        return Scan {
+        return PageScan {
             answer: Answer::WrongBufferLength(m),
             fits: blank,
         };
     }
-    let fits = crate::rescan::rescan(page, 0, 8, stored, shifted, blank);
-    Scan {
+    let fits = crate::rescan::rescan(number, 0, 8, stored, shifted, blank);
+    PageScan {
         answer: Answer::Accepted,
         fits,
     }
@@ -39,19 +40,15 @@ pub fn scan_page(page: u64, stored: &[u8], shifted: &mut [u8]) -> Scan
 
 // Where sector `s` ends: the last one before the trailer.
 pub fn sector_end(s: usize) -> usize
-    ensures { λ r. ⌜ r ≡ endOf s ⌝ }
+    ensures { λ r. ⌜ r ≡ sectorEnd s ⌝ }
 {
     if s < 7 { s * 512 + 512 } else { 4080 }
 }
 
-fn blank_fits() -> [Fit; 8]
+// What stands where no sector was scanned.
+pub fn blank_fits() -> [Fit; 8]
     ensures { λ r. ⌜ r ≡ blankFits ⌝ }
 {
-    let blank = Fit {
-        step: 0,
-        peak: 0,
-        runner_up: 0,
-        exact: false,
-    };
+    let blank = Fit::blank();
     [blank; 8]
 }

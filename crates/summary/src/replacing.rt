@@ -5,8 +5,8 @@ ghost use lib.ListN.{length, set};
 ghost use Rattle.lists.specs.Pieces.{over};
 ghost use Rattle.sector.specs.Byte.{offsetOf};
 ghost use Rattle.sector.specs.Fit.{fitOf, sectorOf};
-ghost use Rattle.summary.specs.Page.{endOf};
-ghost use Rattle.summary.specs.Replace.{replaced, storedAfter, shiftedAfter};
+ghost use Rattle.summary.specs.Page.{sectorEnd};
+ghost use Rattle.summary.specs.Replace.{Renews};
 use crate::pages::sector_end;
 use crate::rescan::rescan;
 use answers::Answer;
@@ -20,14 +20,14 @@ pub struct Changed {
 
 // `new` takes the place of a sector's bytes, and the summary follows: one sector is scanned, not eight. A refusal changes nothing.
 pub fn replace_sector(
-    page: u64,
+    number: u64,
     sector: usize,
     new: &[u8],
     stored: &mut [u8],
     shifted: &mut [u8],
     fits: [Fit; 8],
 ) -> Changed
-    ensures { λ r. ⌜ (r ≡ replaced page sector (now (new .entry)) (length (now (stored .entry))) (length (now (shifted .entry))) fits) × (now (stored .exit) ≡ storedAfter sector (now (new .entry)) (now (stored .entry)) (length (now (shifted .entry)))) × (now (shifted .exit) ≡ shiftedAfter page sector (now (new .entry)) (length (now (stored .entry))) (now (shifted .entry))) ⌝ }
+    ensures { λ r. ⌜ Renews number sector (now (new .entry)) (now (stored .entry)) (now (stored .exit)) (now (shifted .entry)) (now (shifted .exit)) fits r ⌝ }
 {
     let n = stored.len();
     if n != 4096 {
@@ -57,7 +57,7 @@ pub fn replace_sector(
             fits,
         };
     }
-    let next = put_sector(page, sector, new, stored, shifted, fits);
+    let next = put_sector(number, sector, new, stored, shifted, fits);
     Changed {
         answer: Answer::Accepted,
         fits: next,
@@ -65,29 +65,20 @@ pub fn replace_sector(
 }
 
 fn put_sector(
-    page: u64,
+    number: u64,
     sector: usize,
     new: &[u8],
     stored: &mut [u8],
     shifted: &mut [u8],
     fits: [Fit; 8],
 ) -> [Fit; 8]
-    requires { ⌜ (sector < 8) × (length (now new) ≡ endOf sector - sector * 512) × (length (now stored) ≡ 4096) × (length (now shifted) ≡ 4080) ⌝ }
-    ensures { λ r. ⌜ (r ≡ set fits sector (fitOf (offsetOf page sector) (now (new .entry)))) × (now (stored .exit) ≡ over (now (stored .entry)) (sector * 512) (now (new .entry))) × (now (shifted .exit) ≡ over (now (shifted .entry)) (sector * 512) (sectorOf (offsetOf page sector) (now (new .entry)))) ⌝ }
+    requires { ⌜ (sector < 8) × (length (now new) ≡ sectorEnd sector - sector * 512) × (length (now stored) ≡ 4096) × (length (now shifted) ≡ 4080) ⌝ }
+    ensures { λ r. ⌜ r ≡ set fits sector (fitOf (offsetOf number sector) (now (new .entry))) ⌝ }
+    ensures { λ r. ⌜ now (stored .exit) ≡ over (now (stored .entry)) (sector * 512) (now (new .entry)) ⌝ }
+    ensures { λ r. ⌜ now (shifted .exit) ≡ over (now (shifted .entry)) (sector * 512) (sectorOf (offsetOf number sector) (now (new .entry))) ⌝ }
 {
     let start = sector * 512;
     let end = sector_end(sector);
-    copy_in(new, &mut stored[start..end]);
-    rescan(page, sector, 1, stored, shifted, fits)
-}
-
-fn copy_in(new: &[u8], out: &mut [u8])
-    requires { ⌜ length (now out) ≡ length (now new) ⌝ }
-    ensures { λ r. ⌜ now (out .exit) ≡ now (new .entry) ⌝ }
-{
-    let mut i: usize = 0;
-    while i < new.len() {
-        out[i] = new[i];
-        i += 1;
-    }
+    numbers::copy(new, &mut stored[start..end]);
+    rescan(number, sector, 1, stored, shifted, fits)
 }

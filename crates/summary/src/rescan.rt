@@ -8,7 +8,7 @@ use sector::Fit;
 
 // The fits with those of `count` sectors from `first` on; their shifted bytes go into `shifted`.
 pub(crate) fn rescan(
-    page: u64,
+    number: u64,
     first: usize,
     count: usize,
     stored: &[u8],
@@ -16,7 +16,8 @@ pub(crate) fn rescan(
     fits: [Fit; 8],
 ) -> [Fit; 8]
     requires { ⌜ (first + count ≤ 8) × (length (now stored) ≡ 4096) × (length (now shifted) ≡ 4080) ⌝ }
-    ensures { λ r. ⌜ (r ≡ refitted page (now (stored .entry)) first fits count) × (now (shifted .exit) ≡ reshifted page (now (stored .entry)) first (now (shifted .entry)) count) ⌝ }
+    ensures { λ r. ⌜ r ≡ refitted number (now (stored .entry)) first fits count ⌝ }
+    ensures { λ r. ⌜ now (shifted .exit) ≡ reshifted number (now (stored .entry)) first (now (shifted .entry)) count ⌝ }
 {
     let mut next = fits;
     let mut done: usize = 0;
@@ -24,7 +25,7 @@ pub(crate) fn rescan(
         let s = first + done;
         let start = s * 512;
         let end = sector_end(s);
-        let offset = sector::ap_offset(page, s as u8);
+        let offset = sector::ap_offset(number, s as u8);
         let fit = sector::scan_sector(&stored[start..end], offset, &mut shifted[start..end]);
         next[s] = fit;
         done += 1;

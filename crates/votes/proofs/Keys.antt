@@ -17,7 +17,7 @@ use Rattle.lists.proofs.Many.{many-none, many-ext}
 use Rattle.lists.proofs.Greatest.{greatest-none, greatest-more, greatest-above, greatest-below}
 use Rattle.lists.proofs.Least.{least-is}
 use Rattle.votes.specs.Votes.{beats, topOf}
-use Rattle.votes.specs.Tables.{keyOf}
+use Rattle.votes.specs.CountTables.{keyOf}
 use Rattle.votes.proofs.Tests.{lt-cases, same-ltb, below, below-yes, below-no, below-le, below-both}
 
 -- a, b, c and d are the four greatest of f 0, .., f (n - 1): as many of them lie above x as of all, counted to four

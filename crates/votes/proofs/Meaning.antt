@@ -11,9 +11,13 @@ use lib.Dec.{eqb, ltb}
 use lib.ListN.{length, length-append, List·getD-append}
 use lib.Seq.{getD-at}
 use Rattle.lists.specs.Cases.{pick}
-use Rattle.lists.specs.Bytes.{byteAt}
-use Rattle.lists.specs.Counts.{howMany, isIn}
+use Rattle.lists.specs.Bytes.{byteAt, AllBytes}
+use Rattle.lists.specs.Counts.{count, howMany, isIn}
 use Rattle.lists.specs.Pieces.{among}
+use Rattle.lists.proofs.Booleans.{or-nothing, or-yes-right}
+use Rattle.lists.proofs.Picks.{pick-test}
+use Rattle.lists.proofs.Count.{count-here}
+use Rattle.lists.proofs.Each.{each-at}
 use Rattle.lists.proofs.Many.{many-ext}
 use Rattle.lists.proofs.Greatest.{greatest-above}
 use Rattle.votes.specs.declared.Candidate.{Candidate}
@@ -53,14 +57,6 @@ module _ (n : ℕ) (l : List ℕ) where
 
   rises-later : Rises n l → Rises (suc n) l
   rises-later r = record { within = λ i h. omega (arith, r .within i h); strictly = r .strictly }
-
-or-false : (b : Bool) → (b || false) ≡ b
-or-false true = refl
-or-false false = refl
-
-pick-test : (b : Bool) → pick b true false ≡ b
-pick-test true = refl
-pick-test false = refl
 
 in-last : (v : ℕ) (l : List ℕ) (n : ℕ) → isIn v (l ++ (n ∷ [])) ≡ (isIn v l || eqb v n)
 unfolding isIn
@@ -103,7 +99,7 @@ module _ (p : ℕ → Bool) where
         → isIn v (among p (λ v. v) n ++ pick b (n ∷ []) []) ≡ (ltb v (suc n) && p v)
     has-more true q ih (yes e) = in-last v (among p (λ v. v) n) n ∙ ap₂ _||_ (before ih e) (eq-eqb v n e) ∙ same true q e
     has-more true q ih (no ne) =
-        in-last v (among p (λ v. v) n) n ∙ ap₂ _||_ ih (ne-eqb v n ne) ∙ or-false (ltb v n && p v) ∙ other ne
+        in-last v (among p (λ v. v) n) n ∙ ap₂ _||_ ih (ne-eqb v n ne) ∙ or-nothing (ltb v n && p v) ∙ other ne
     has-more false q ih (yes e) = ap (isIn v) (append-nil (among p (λ v. v) n)) ∙ before ih e ∙ same false q e
     has-more false q ih (no ne) = ap (isIn v) (append-nil (among p (λ v. v) n)) ∙ ih ∙ other ne
 
@@ -132,26 +128,26 @@ module _ (g : Candidate → ℕ) where
 abbrev pub valuesOf : List Candidate → List ℕ
 valuesOf l = map (λ (c : Candidate). c .bv) l
 
-module _ (lim : ℕ) (xs anchors : List ℕ) (n t bound : ℕ) where
-  values-are : valuesOf (candidatesBelow lim xs anchors n t bound) ≡ among (isCandidate (countsOf xs) (countsOf (ballots xs))) (λ v. v) bound
+module _ (lim : ℕ) (shifted anchors : List ℕ) (n t bound : ℕ) where
+  values-are : valuesOf (candidatesBelow lim shifted anchors n t bound) ≡ among (isCandidate (countsOf shifted) (countsOf (ballots shifted))) (λ v. v) bound
   unfolding candidatesBelow candidateOf
-  values-are = map-among (λ (c : Candidate). c .bv) (isCandidate (countsOf xs) (countsOf (ballots xs))) (candidateOf lim xs anchors n t) bound
+  values-are = map-among (λ (c : Candidate). c .bv) (isCandidate (countsOf shifted) (countsOf (ballots shifted))) (candidateOf lim shifted anchors n t) bound
 
-  pub candidates-rise : Rises bound (valuesOf (candidatesBelow lim xs anchors n t bound))
-  candidates-rise = subst (Rises bound) (sym values-are) (among-rises (isCandidate (countsOf xs) (countsOf (ballots xs))) bound)
+  pub candidates-rise : Rises bound (valuesOf (candidatesBelow lim shifted anchors n t bound))
+  candidates-rise = subst (Rises bound) (sym values-are) (among-rises (isCandidate (countsOf shifted) (countsOf (ballots shifted))) bound)
 
   -- "all voted values and the four commonest": voted for, or it occurs and fewer than four values beat it
   pub candidates-are :
       (v : ℕ)
       → v < bound
-      → isIn v (valuesOf (candidatesBelow lim xs anchors n t bound))
-      ≡ (ltb 0 (byteAt (countsOf (ballots xs)) v)
-      || (ltb 0 (byteAt (countsOf xs) v) && ltb (howMany (λ w. beats (countsOf xs) w v) 256) 4))
+      → isIn v (valuesOf (candidatesBelow lim shifted anchors n t bound))
+      ≡ (ltb 0 (byteAt (countsOf (ballots shifted)) v)
+      || (ltb 0 (byteAt (countsOf shifted) v) && ltb (howMany (λ w. beats (countsOf shifted) w v) 256) 4))
   unfolding isCandidate isCommon
   candidates-are v h =
       ap (isIn v) values-are
-      ∙ among-has (isCandidate (countsOf xs) (countsOf (ballots xs))) bound v
-      ∙ ap (λ (b : Bool). b && isCandidate (countsOf xs) (countsOf (ballots xs)) v) (lt-ltb v bound h)
+      ∙ among-has (isCandidate (countsOf shifted) (countsOf (ballots shifted))) bound v
+      ∙ ap (λ (b : Bool). b && isCandidate (countsOf shifted) (countsOf (ballots shifted)) v) (lt-ltb v bound h)
 
 -- no value beats the top; and where a value occurs, the top occurs and is a candidate
 none-pass : (n : ℕ) → howMany (λ w. false) n ≡ 0
@@ -180,3 +176,20 @@ module _ (counts : List ℕ) where
       top-met counts (0 < byteAt counts (topOf counts))
       (λ m l q e. omega (arith, ap (byteAt counts) e, greatest-above (keyAt counts) 256 v h)) in
       ap₂ _&&_ (lt-ltb 0 (byteAt counts (topOf counts)) occurs) (lt-ltb (howMany (λ w. beats counts w (topOf counts)) 256) 4 (omega (arith, few)))
+
+-- the table of counts has each value's count; and of some bytes the top is a candidate
+pub counts-at : (l : List ℕ) (v : ℕ) → v < 256 → byteAt (countsOf l) v ≡ count v l
+unfolding countsOf
+counts-at l v h = each-at (λ v. count v l) 256 v 0 h
+
+pub top-candidate :
+    (shifted votes : List ℕ)
+    → 0 < length shifted
+    → AllBytes shifted
+    → isCandidate (countsOf shifted) votes (topOf (countsOf shifted)) ≡ true
+unfolding isCandidate
+top-candidate [] votes h b = absurd (omega arith)
+top-candidate (x ∷ xs) votes h b =
+    let small : x < 256 = b .at 0 h in
+    or-yes-right (ltb 0 (byteAt votes (topOf (countsOf (x ∷ xs))))) (isCommon (countsOf (x ∷ xs)) (topOf (countsOf (x ∷ xs))))
+    (top-common (countsOf (x ∷ xs)) x small (omega (arith, counts-at (x ∷ xs) x small, count-here x xs)))

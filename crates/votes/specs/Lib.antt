@@ -1,3 +1,4 @@
--- What speaks for each value of bv; and the tables that the code keeps on its way.
+-- What speaks for each value of bv.
 pub mod Votes
-pub mod Tables
+-- private
+pub mod CountTables

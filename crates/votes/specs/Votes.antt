@@ -1,10 +1,10 @@
--- Document 01, "Choosing bv": the candidates for bv, and what speaks for each. `xs` is the 4,080 shifted bytes of a page, n the
--- stored row count, t the least row count that is tested, lim the limit of the slot search. Assumes nothing.
-use Prim.Native.Nat.{ℕ, _+_, _*_}
+-- Document 01, "Choosing bv": the candidates for bv, and what speaks for each. n is the stored row count, t the
+-- least row count that is tested, lim the limit of the slot search. Assumes nothing.
+use Prim.Native.Nat.{ℕ, _+_, _*_, min}
 use mathlib.Core.Bool.{Bool, false, _&&_, _||_}
 use mathlib.Core.List.{List}
 use lib.Dec.{eqb, ltb, leb}
-use lib.ListN.{length, set, replicate}
+use lib.ListN.{length, getD, set, replicate}
 use Rattle.lists.specs.Cases.{pick}
 use Rattle.lists.specs.Bytes.{byteAt, plainOf}
 use Rattle.lists.specs.Counts.{count, howMany, greatest, least, allSame, isIn}
@@ -22,7 +22,7 @@ countsOf l = each (λ v. count v l) 256
 
 -- "An exact sector votes for its shifted value": the votes, in the sectors' order
 unfoldable pub ballots : List ℕ → List ℕ
-ballots xs = among (λ s. allSame (part s xs)) (λ s. byteAt xs (s * 512)) 8
+ballots shifted = among (λ s. allSame (part s shifted)) (λ s. byteAt shifted (s * 512)) 8
 
 -- w is commoner than v: it has the greater count, or the same count and is smaller
 unfoldable pub beats : List ℕ → ℕ → ℕ → Bool
@@ -42,22 +42,22 @@ isCandidate counts votes v = ltb 0 (byteAt votes v) || isCommon counts v
 
 -- "verified if the stored row count isn't 0 and its plaintext passes the row-count test"
 unfoldable pub isVerified : ℕ → List ℕ → ℕ → ℕ → ℕ → Bool
-isVerified lim xs n t bv = ltb 0 n && rowCountMatches lim (plainOf bv xs) n t
+isVerified lim shifted n t bv = ltb 0 n && rowCountMatches lim (plainOf bv shifted) n t
 
 -- a value with its count, its votes, and whether it is verified and anchored ("in the anchor list")
 unfoldable pub candidateOf : ℕ → List ℕ → List ℕ → ℕ → ℕ → ℕ → Candidate
-candidateOf lim xs anchors n t v =
+candidateOf lim shifted anchors n t v =
     record {
       bv = v;
-      zeros = byteAt (countsOf xs) v;
-      votes = byteAt (countsOf (ballots xs)) v;
-      verified = isVerified lim xs n t v;
+      zeros = byteAt (countsOf shifted) v;
+      votes = byteAt (countsOf (ballots shifted)) v;
+      verified = isVerified lim shifted n t v;
       anchored = isIn v anchors;
     }
 
 -- the candidates below a bound, "ascending"
 unfoldable pub candidatesBelow : ℕ → List ℕ → List ℕ → ℕ → ℕ → ℕ → List Candidate
-candidatesBelow lim xs anchors n t bound = among (isCandidate (countsOf xs) (countsOf (ballots xs))) (candidateOf lim xs anchors n t) bound
+candidatesBelow lim shifted anchors n t bound = among (isCandidate (countsOf shifted) (countsOf (ballots shifted))) (candidateOf lim shifted anchors n t) bound
 
 -- the table of candidates: the first eight, and how many there are, counted to nine
 abbrev pub blankCandidate : Candidate
@@ -73,13 +73,20 @@ withCandidate t c =
 unfoldable pub tabled : List Candidate → Candidates
 tabled l = fold withCandidate noCandidates l
 
+-- and the candidates of a table, as a list
+abbrev pub candidateAt : Candidates → ℕ → Candidate
+candidateAt t i = getD (t .items) i blankCandidate
+
+abbrev pub listed : Candidates → List Candidate
+listed t = each (candidateAt t) (min (t .len) 8)
+
 -- what the rules go by: the candidates, the number of votes, and the top
 unfoldable pub assessmentOf : ℕ → List ℕ → List ℕ → ℕ → ℕ → Assessment
-assessmentOf lim xs anchors n t =
+assessmentOf lim shifted anchors n t =
     record {
-      candidates = tabled (candidatesBelow lim xs anchors n t 256);
-      total = length (ballots xs);
-      top = topOf (countsOf xs);
+      candidates = tabled (candidatesBelow lim shifted anchors n t 256);
+      total = length (ballots shifted);
+      top = topOf (countsOf shifted);
     }
 
 -- shifted bytes that are not 4,080 have no candidates
@@ -87,8 +94,9 @@ abbrev pub noAssessment : Assessment
 noAssessment = record { candidates = noCandidates; total = 0; top = 0 }
 
 unfoldable pub assessed : ℕ → List ℕ → List ℕ → ℕ → ℕ → Assessment
-assessed lim xs anchors n t = pick (eqb (length xs) 4080) (assessmentOf lim xs anchors n t) noAssessment
+assessed lim shifted anchors n t = pick (eqb (length shifted) 4080) (assessmentOf lim shifted anchors n t) noAssessment
 
 -- the votes for one value, and all votes
 unfoldable pub pollOf : List ℕ → ℕ → Poll
-pollOf xs bv = pick (eqb (length xs) 4080) (record { votes = count bv (ballots xs); total = length (ballots xs) }) (record { votes = 0; total = 0 })
+pollOf shifted bv =
+    pick (eqb (length shifted) 4080) (record { votes = count bv (ballots shifted); total = length (ballots shifted) }) (record { votes = 0; total = 0 })

@@ -1,8 +1,8 @@
 // The commonest value, and which values are among the four commonest, in one pass over the counts.
 ghost use mathlib.Core.Path.{_≡_};
-ghost use Prim.Native.Nat.{ℕ, max, min};
+ghost use Prim.Native.Nat.{max, min};
 ghost use lib.ListN.{length};
-ghost use Rattle.votes.specs.Tables.{keyOf, Leads};
+ghost use Rattle.votes.specs.CountTables.{keyOf, Leads};
 
 // The commonest value, and the key of the fourth commonest.
 pub struct Leading {

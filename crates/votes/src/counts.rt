@@ -1,9 +1,9 @@
 // How often each value occurs among the shifted bytes of a page.
 ghost use mathlib.Core.Path.{_≡_};
-ghost use Prim.Native.Nat.{_<_};
 ghost use lib.ListN.{length};
 ghost use Rattle.votes.specs.Votes.{countsOf};
-ghost use Rattle.votes.specs.Tables.{Quarters, AtMost, sumsOf};
+ghost use Rattle.votes.specs.CountTables.{Quarters, AtMost, sumsOf};
+use numbers::wide;
 
 // Four quarters of 1,020 bytes, each counted in a table of its own.
 pub(crate) fn value_counts(bytes: &[u8]) -> [u16; 256]
@@ -49,10 +49,4 @@ fn sums(a: &[u16], b: &[u16], c: &[u16], d: &[u16]) -> [u16; 256]
         v += 1;
     }
     out
-}
-
-pub(crate) fn wide(x: u8) -> usize
-    ensures { λ r. ⌜ (r ≡ x) × (r < 256) ⌝ }
-{
-    x as usize
 }

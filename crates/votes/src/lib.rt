@@ -9,6 +9,7 @@ mod polls;
 pub use polls::Poll;
 pub use polls::votes_for;
 ghost use mathlib.Core.Path.{_≡_};
+ghost use Rattle.slots.specs.Slots.{searchLimit};
 ghost use Rattle.votes.specs.Votes.{noCandidates, withCandidate, assessed};
 
 // A value that bv may have, and what speaks for it.
@@ -20,7 +21,8 @@ pub struct Candidate {
     pub anchored: bool,
 }
 
-// The first eight candidates, ascending, and how many there are, counted to nine.
+// The first eight candidates, ascending, and how many there are, counted to nine. Eight sectors may vote for eight values beside the four
+// commonest; a page of more than eight candidates is refused.
 pub struct Candidates {
     pub items: [Candidate; 8],
     pub len: usize,
@@ -35,7 +37,7 @@ pub struct Assessment {
 
 // The assessment of a page's shifted bytes, with the stored row count n and T; of another number of bytes an empty one.
 pub fn assess(shifted: &[u8], anchors: &[u8], n: u8, t: u8) -> Assessment
-    ensures { λ r. ⌜ r ≡ assessed 0x300 (now (shifted .entry)) (now (anchors .entry)) n t ⌝ }
+    ensures { λ r. ⌜ r ≡ assessed searchLimit (now (shifted .entry)) (now (anchors .entry)) n t ⌝ }
 {
     if shifted.len() != 4080 {
         let none = Candidates::none();

@@ -5,10 +5,10 @@ use crate::commonest::key;
 ghost use mathlib.Core.Path.{_≡_};
 ghost use mathlib.Core.Bool.{_&&_, _||_};
 ghost use lib.Dec.{ltb, leb};
-ghost use lib.ListN.{length};
 ghost use Rattle.lists.specs.Counts.{isIn};
-ghost use Rattle.votes.specs.Votes.{countsOf, ballots, isVerified, candidatesBelow, tabled};
-ghost use Rattle.votes.specs.Tables.{keyOf, Assesses};
+ghost use Rattle.slots.specs.Slots.{searchLimit};
+ghost use Rattle.votes.specs.Votes.{isVerified, candidatesBelow, tabled};
+ghost use Rattle.votes.specs.CountTables.{keyOf, Assesses};
 
 // `counts` and `votes` are those of the shifted bytes, and `fourth` is the key of the fourth commonest value.
 pub(crate) fn candidates(
@@ -21,7 +21,7 @@ pub(crate) fn candidates(
     fourth: u32,
 ) -> Candidates
     requires { ⌜ Assesses (now shifted) (now counts) (now votes) fourth ⌝ }
-    ensures { λ r. ⌜ r ≡ tabled (candidatesBelow 0x300 (now (shifted .entry)) (now (anchors .entry)) n t 256) ⌝ }
+    ensures { λ r. ⌜ r ≡ tabled (candidatesBelow searchLimit (now (shifted .entry)) (now (anchors .entry)) n t 256) ⌝ }
 {
     let mut found = Candidates::none();
     let mut v: usize = 0;
@@ -45,7 +45,7 @@ pub(crate) fn candidates(
     found
 }
 
-// Voted for, or one of the four commonest values that occur.
+// Voted for, or one of the four commonest values that occur (the Rust's HISTOGRAM_CANDIDATES).
 fn is_candidate(zeros: u16, votes: u16, v: u8, fourth: u32) -> bool
     ensures { λ r. ⌜ r ≡ (ltb 0 votes || (ltb 0 zeros && leb fourth (keyOf zeros v))) ⌝ }
 {
@@ -60,12 +60,12 @@ fn is_candidate(zeros: u16, votes: u16, v: u8, fourth: u32) -> bool
 
 // The row-count test, where the stored row count is not 0.
 fn is_verified(shifted: &[u8], n: u8, t: u8, bv: u8) -> bool
-    ensures { λ r. ⌜ r ≡ isVerified 0x300 (now (shifted .entry)) n t bv ⌝ }
+    ensures { λ r. ⌜ r ≡ isVerified searchLimit (now (shifted .entry)) n t bv ⌝ }
 {
     if n == 0 {
         return false;
     }
-    slots::trailer_row_count_matches(shifted, bv, 0x300, n, t)
+    slots::trailer_row_count_matches(shifted, bv, slots::SEARCH_LIMIT, n, t)
 }
 
 // Whether a value is in a list.

@@ -1,9 +1,9 @@
 // The votes of the exact sectors.
-use crate::counts::wide;
+use numbers::wide;
 ghost use mathlib.Core.Path.{_≡_};
 ghost use lib.ListN.{length};
 ghost use Rattle.votes.specs.Votes.{pollOf};
-ghost use Rattle.votes.specs.Tables.{ballotsOf};
+ghost use Rattle.votes.specs.CountTables.{ballotsOf};
 
 // The votes for one value, and all votes.
 pub struct Poll {

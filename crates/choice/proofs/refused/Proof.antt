@@ -4,12 +4,9 @@ use borrow.Author.Needs.{needs}
 use Rattle.choice.proofs.refused.Statement.{statement}
 use Rattle.choice.proofs.refused.Tie as tie
 
-none-requires : tie.Need-none-requires
-none-requires c κs = search needs
-
 returns : tie.Need-returns
 unfolding refusedOf
 returns c = rw (c .none .ensures)
 
 pub refused-spec : {M : Type 1} → statement M
-refused-spec = tie.close (tie.spec none-requires returns)
+refused-spec = tie.close (tie.spec (λ c κs. search needs) returns)

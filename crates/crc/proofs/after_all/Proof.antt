@@ -6,8 +6,8 @@ use borrow.Author.Needs.{needs}
 use denote.Ref.{now}
 use lib.Dec.{lit<}
 use lib.ListN.{length, drop, length-take, length-drop}
-use Rattle.crc.specs.Register.{registerAfter}
-use Rattle.crc.proofs.Taken.{chunk-in, rest-in}
+use Rattle.checksum.specs.Register.{registerAfter}
+use Rattle.checksum.proofs.Words.{chunk-in, rest-in}
 use Rattle.crc.proofs.after_all.Statement.{statement}
 use Rattle.crc.proofs.after_all.Tie as tie
 
@@ -77,9 +77,6 @@ part-after-medium-start c = omega arith
 part-after-medium-end : tie.Need-part-after-medium-end Inv-loop μ-loop
 part-after-medium-end c = omega arith
 
-after-medium-requires : tie.Need-after-medium-requires Inv-loop μ-loop
-after-medium-requires c κs = search needs
-
 returns-2 : tie.Need-returns-2 Inv-loop μ-loop
 returns-2 c =
     let s = now (c .before .before .before .before .before .before .args .octets) in
@@ -110,5 +107,5 @@ after-all-spec =
     sub-after-medium
     part-after-medium-start
     part-after-medium-end
-    after-medium-requires
+    (λ c κs. search needs)
     returns-2)

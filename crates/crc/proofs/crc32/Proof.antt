@@ -2,16 +2,13 @@
 use mathlib.Core.Path.{sym, ap, _∙_}
 use Prim.Native.Nat.{ℕ, _-_, _^_}
 use denote.Ref.{now}
-use Rattle.crc.proofs.Definition.{crc-is-register}
+use Rattle.checksum.proofs.Definition.{crc-is-register}
 use borrow.Author.Needs.{needs}
 use Rattle.crc.proofs.crc32.Statement.{statement}
 use Rattle.crc.proofs.crc32.Tie as tie
-
-after-all-requires : tie.Need-after-all-requires
-after-all-requires c κs = search needs
 
 returns : tie.Need-returns
 returns c = ap (λ (x : ℕ). (2 ^ 32 - 1) - x) (c .after-all .ensures) ∙ sym (crc-is-register (now (c .before .before .args .bytes)))
 
 pub crc32-spec : {M : Type 1} → statement M
-crc32-spec = tie.close (tie.spec after-all-requires returns)
+crc32-spec = tie.close (tie.spec (λ c κs. search needs) returns)

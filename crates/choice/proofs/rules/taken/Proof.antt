@@ -4,12 +4,9 @@ use borrow.Author.Needs.{needs}
 use Rattle.choice.proofs.rules.taken.Statement.{statement}
 use Rattle.choice.proofs.rules.taken.Tie as tie
 
-evidence-for-requires : tie.Need-evidence-for-requires
-evidence-for-requires c κs = search needs
-
 returns : tie.Need-returns
 unfolding takenOf
 returns c = rw (c .evidence-for .ensures)
 
 pub taken-spec : {M : Type 1} → statement M
-taken-spec = tie.close (tie.spec evidence-for-requires returns)
+taken-spec = tie.close (tie.spec (λ c κs. search needs) returns)

@@ -3,11 +3,8 @@ use borrow.Author.Needs.{needs}
 use Rattle.choice.proofs.supplied.supplied_with.Statement.{statement}
 use Rattle.choice.proofs.supplied.supplied_with.Tie as tie
 
-none-requires : tie.Need-none-requires
-none-requires c κs = search needs
-
 returns : tie.Need-returns
 returns c = rw (c .none .ensures)
 
 pub supplied-with-spec : {M : Type 1} → statement M
-supplied-with-spec = tie.close (tie.spec none-requires returns)
+supplied-with-spec = tie.close (tie.spec (λ c κs. search needs) returns)

@@ -9,33 +9,6 @@ use borrow.Author.Needs.{needs}
 use Rattle.crc.proofs.fold.after_long.Statement.{statement}
 use Rattle.crc.proofs.fold.after_long.Tie as tie
 
-low-octet-requires : tie.Need-low-octet-requires
-low-octet-requires c κs = search needs
-
-array-write-sums : tie.Need-array-write-sums
-array-write-sums c = search needs
-
-low-octet-requires-2 : tie.Need-low-octet-requires-2
-low-octet-requires-2 c κs = search needs
-
-array-write-sums-2 : tie.Need-array-write-sums-2
-array-write-sums-2 c = search needs
-
-low-octet-requires-3 : tie.Need-low-octet-requires-3
-low-octet-requires-3 c κs = search needs
-
-array-write-sums-3 : tie.Need-array-write-sums-3
-array-write-sums-3 c = search needs
-
-low-octet-requires-4 : tie.Need-low-octet-requires-4
-low-octet-requires-4 c κs = search needs
-
-array-write-sums-4 : tie.Need-array-write-sums-4
-array-write-sums-4 c = search needs
-
-sub-cut : tie.Need-sub-cut
-sub-cut c = search needs
-
 fold-up-to-requires : tie.Need-fold-up-to-requires
 fold-up-to-requires c κs =
     let r = c .before .before .before .before .before .before .args in (
@@ -45,18 +18,6 @@ fold-up-to-requires c κs =
       folding-none (r .start) (now (r .octets)) (c .before .before .before .before .low-octet .result) (c .before .before .before .low-octet2 .result) (c .before .before .low-octet3 .result) (c .before .low-octet4 .result)
           (c .before .before .before .before .low-octet .ensures) (c .before .before .before .low-octet2 .ensures) (c .before .before .low-octet3 .ensures) (c .before .low-octet4 .ensures),
     )
-
-sub-left-over : tie.Need-sub-left-over
-sub-left-over c = search needs
-
-left-over-requires : tie.Need-left-over-requires
-left-over-requires c κs = search needs
-
-slice-aggregate-after-medium : tie.Need-slice-aggregate-after-medium
-slice-aggregate-after-medium c = search needs
-
-after-medium-requires : tie.Need-after-medium-requires
-after-medium-requires c κs = search needs
 
 returns : tie.Need-returns
 returns c =
@@ -73,18 +34,18 @@ pub after-long-spec : {M : Type 1} → statement M
 after-long-spec =
     tie.close
     (tie.spec
-    low-octet-requires
-    array-write-sums
-    low-octet-requires-2
-    array-write-sums-2
-    low-octet-requires-3
-    array-write-sums-3
-    low-octet-requires-4
-    array-write-sums-4
-    sub-cut
+    (λ c κs. search needs)
+    (λ c. search needs)
+    (λ c κs. search needs)
+    (λ c. search needs)
+    (λ c κs. search needs)
+    (λ c. search needs)
+    (λ c κs. search needs)
+    (λ c. search needs)
+    (λ c. search needs)
     fold-up-to-requires
-    sub-left-over
-    left-over-requires
-    slice-aggregate-after-medium
-    after-medium-requires
+    (λ c. search needs)
+    (λ c κs. search needs)
+    (λ c. search needs)
+    (λ c κs. search needs)
     returns)

@@ -5,8 +5,8 @@ use native.Mathlib.Omega.{arith}
 use borrow.Author.Needs.{needs}
 use denote.Ref.{now}
 use lib.ListN.{length, getD, drop, drop-of-length-le}
-use Rattle.crc.specs.Register.{registerAfter}
-use Rattle.crc.proofs.Taken.{octet-in, register-none}
+use Rattle.checksum.specs.Register.{registerAfter}
+use Rattle.checksum.proofs.Words.{octet-in, register-none}
 use Rattle.crc.proofs.register.after_octets.Statement.{statement}
 use Rattle.crc.proofs.register.after_octets.Tie as tie
 
@@ -18,15 +18,6 @@ abbrev μ-loop : tie.MeasureT-loop
 
 loop-holds : tie.Need-loop-holds Inv-loop μ-loop
 loop-holds c = (c .before .pre, refl)
-
-shared-slice-read-after-octet : tie.Need-shared-slice-read-after-octet Inv-loop μ-loop
-shared-slice-read-after-octet c = search needs
-
-after-octet-requires : tie.Need-after-octet-requires Inv-loop μ-loop
-after-octet-requires c κs = search needs
-
-add-k : tie.Need-add-k Inv-loop μ-loop
-add-k c = search needs
 
 loop-less : tie.Need-loop-less Inv-loop μ-loop
 loop-less c = omega arith
@@ -52,9 +43,9 @@ after-octets-spec =
     Inv-loop
     μ-loop
     loop-holds
-    shared-slice-read-after-octet
-    after-octet-requires
-    add-k
+    (λ c. search needs)
+    (λ c κs. search needs)
+    (λ c. search needs)
     loop-less
     loop-again
     returns)

@@ -4,8 +4,8 @@ use Prim.Native.Nat.{_+_, _-_, _≤_, _<_, _^_}
 use native.Mathlib.Omega.{arith}
 use denote.Ref.{now}
 use lib.ListN.{length, drop}
-use Rattle.crc.specs.Register.{registerAfter}
-use Rattle.crc.proofs.Taken.{eight-in}
+use Rattle.checksum.specs.Register.{registerAfter}
+use Rattle.checksum.proofs.Words.{eight-in}
 use Rattle.crc.proofs.register.after_short.Statement.{statement}
 use Rattle.crc.proofs.register.after_short.Tie as tie
 

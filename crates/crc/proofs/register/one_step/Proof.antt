@@ -5,7 +5,7 @@ use native.Mathlib.Nat.{mod-lt}
 use native.Mathlib.Omega.{arith}
 use lib.Bits.{bitXor, and-mask}
 use lib.Dec.{lit<}
-use Rattle.crc.specs.Register.{taps, step}
+use Rattle.checksum.specs.Register.{taps, step}
 use Rattle.crc.proofs.register.one_step.Statement.{statement}
 use Rattle.crc.proofs.register.one_step.Tie as tie
 

@@ -1,5 +1,5 @@
 -- `sixty_four_steps`: the shifts and the steps are linear and agree at every power of 2 (`shifts-steps`).
-use Rattle.crc.proofs.Linear.{shifts-steps, shifts-lt}
+use Rattle.checksum.proofs.Linear.{shifts-steps, shifts-lt}
 use Rattle.crc.proofs.register.sixty_four_steps.Statement.{statement}
 use Rattle.crc.proofs.register.sixty_four_steps.Tie as tie
 

@@ -1,56 +1,11 @@
 -- `word_at`: eight octets, each shifted to its place, are the number that they stand for (`value-eight`).
 use mathlib.Core.Path.{sym, ap, _∙_}
 use denote.Ref.{now}
-use Rattle.crc.specs.Register.{valueOf}
-use Rattle.crc.proofs.Octets.{value-eight, take-eight, eight-cells}
+use Rattle.checksum.specs.Register.{valueOf}
+use Rattle.checksum.proofs.Octets.{value-eight, take-eight, eight-cells}
 use borrow.Author.Needs.{needs}
 use Rattle.crc.proofs.register.word_at.Statement.{statement}
 use Rattle.crc.proofs.register.word_at.Tie as tie
-
-octet-at-requires : tie.Need-octet-at-requires
-octet-at-requires c κs = search needs
-
-add-octet-at : tie.Need-add-octet-at
-add-octet-at c = search needs
-
-octet-at-requires-2 : tie.Need-octet-at-requires-2
-octet-at-requires-2 c κs = search needs
-
-add-octet-at-2 : tie.Need-add-octet-at-2
-add-octet-at-2 c = search needs
-
-octet-at-requires-3 : tie.Need-octet-at-requires-3
-octet-at-requires-3 c κs = search needs
-
-add-octet-at-3 : tie.Need-add-octet-at-3
-add-octet-at-3 c = search needs
-
-octet-at-requires-4 : tie.Need-octet-at-requires-4
-octet-at-requires-4 c κs = search needs
-
-add-octet-at-4 : tie.Need-add-octet-at-4
-add-octet-at-4 c = search needs
-
-octet-at-requires-5 : tie.Need-octet-at-requires-5
-octet-at-requires-5 c κs = search needs
-
-add-octet-at-5 : tie.Need-add-octet-at-5
-add-octet-at-5 c = search needs
-
-octet-at-requires-6 : tie.Need-octet-at-requires-6
-octet-at-requires-6 c κs = search needs
-
-add-octet-at-6 : tie.Need-add-octet-at-6
-add-octet-at-6 c = search needs
-
-octet-at-requires-7 : tie.Need-octet-at-requires-7
-octet-at-requires-7 c κs = search needs
-
-add-octet-at-7 : tie.Need-add-octet-at-7
-add-octet-at-7 c = search needs
-
-octet-at-requires-8 : tie.Need-octet-at-requires-8
-octet-at-requires-8 c κs = search needs
 
 returns : tie.Need-returns
 returns c =
@@ -73,19 +28,19 @@ pub word-at-spec : {M : Type 1} → statement M
 word-at-spec =
     tie.close
     (tie.spec
-    octet-at-requires
-    add-octet-at
-    octet-at-requires-2
-    add-octet-at-2
-    octet-at-requires-3
-    add-octet-at-3
-    octet-at-requires-4
-    add-octet-at-4
-    octet-at-requires-5
-    add-octet-at-5
-    octet-at-requires-6
-    add-octet-at-6
-    octet-at-requires-7
-    add-octet-at-7
-    octet-at-requires-8
+    (λ c κs. search needs)
+    (λ c. search needs)
+    (λ c κs. search needs)
+    (λ c. search needs)
+    (λ c κs. search needs)
+    (λ c. search needs)
+    (λ c κs. search needs)
+    (λ c. search needs)
+    (λ c κs. search needs)
+    (λ c. search needs)
+    (λ c κs. search needs)
+    (λ c. search needs)
+    (λ c κs. search needs)
+    (λ c. search needs)
+    (λ c κs. search needs)
     returns)

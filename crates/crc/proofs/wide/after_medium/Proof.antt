@@ -8,8 +8,8 @@ use denote.Ref.{now}
 use lib.Bits.{bitXor, xor-lt}
 use lib.Dec.{lit<}
 use lib.ListN.{length, drop}
-use Rattle.crc.specs.Register.{registerAfter, wideRegister}
-use Rattle.crc.proofs.Turn.{FiveWords, turned, turned-words}
+use Rattle.checksum.specs.Register.{registerAfter, wideRegister}
+use Rattle.checksum.proofs.WideTurn.{FiveWords, turned, turned-words}
 use Rattle.crc.proofs.wide.after_medium.Statement.{statement}
 use Rattle.crc.proofs.wide.after_medium.Tie as tie
 
@@ -19,9 +19,6 @@ Inv-loop c s n n1₀ n2₀ n3₀ n4₀ n5₀ i₀ last n1 n2 n3 n4 n5 i =
 
 abbrev μ-loop : tie.MeasureT-loop
 μ-loop c s n n1₀ n2₀ n3₀ n4₀ n5₀ i₀ last n1 n2 n3 n4 n5 i = last - i
-
-after-short-requires : tie.Need-after-short-requires Inv-loop μ-loop
-after-short-requires c κs = search needs
 
 returns : tie.Need-returns Inv-loop μ-loop
 returns c = c .after-short .ensures
@@ -82,7 +79,7 @@ after-medium-spec =
     (tie.spec
     Inv-loop
     μ-loop
-    after-short-requires
+    (λ c κs. search needs)
     returns
     loop-holds
     sub-loop

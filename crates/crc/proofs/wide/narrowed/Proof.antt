@@ -1,36 +1,9 @@
 -- `narrowed`: what a word leaves goes into the next, five times (`narrowed-in`).
 use denote.Ref.{now}
-use Rattle.crc.proofs.Taken.{narrowed-in}
+use Rattle.checksum.proofs.Words.{narrowed-in}
 use borrow.Author.Needs.{needs}
 use Rattle.crc.proofs.wide.narrowed.Statement.{statement}
 use Rattle.crc.proofs.wide.narrowed.Tie as tie
-
-after-word-requires : tie.Need-after-word-requires
-after-word-requires c κs = search needs
-
-add-after-word : tie.Need-add-after-word
-add-after-word c = search needs
-
-after-word-requires-2 : tie.Need-after-word-requires-2
-after-word-requires-2 c κs = search needs
-
-add-after-word-2 : tie.Need-add-after-word-2
-add-after-word-2 c = search needs
-
-after-word-requires-3 : tie.Need-after-word-requires-3
-after-word-requires-3 c κs = search needs
-
-add-after-word-3 : tie.Need-add-after-word-3
-add-after-word-3 c = search needs
-
-after-word-requires-4 : tie.Need-after-word-requires-4
-after-word-requires-4 c κs = search needs
-
-add-after-word-4 : tie.Need-add-after-word-4
-add-after-word-4 c = search needs
-
-after-word-requires-5 : tie.Need-after-word-requires-5
-after-word-requires-5 c κs = search needs
 
 returns : tie.Need-returns
 returns c =
@@ -62,13 +35,13 @@ pub narrowed-spec : {M : Type 1} → statement M
 narrowed-spec =
     tie.close
     (tie.spec
-    after-word-requires
-    add-after-word
-    after-word-requires-2
-    add-after-word-2
-    after-word-requires-3
-    add-after-word-3
-    after-word-requires-4
-    add-after-word-4
-    after-word-requires-5
+    (λ c κs. search needs)
+    (λ c. search needs)
+    (λ c κs. search needs)
+    (λ c. search needs)
+    (λ c κs. search needs)
+    (λ c. search needs)
+    (λ c κs. search needs)
+    (λ c. search needs)
+    (λ c κs. search needs)
     returns)

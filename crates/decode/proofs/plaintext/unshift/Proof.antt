@@ -7,7 +7,8 @@ use mathlib.Core.List.{[], _∷_, _++_}
 use denote.Ref.{now}
 use lib.ListN.{length, take, length-set}
 use Rattle.lists.specs.Bytes.{plainOf}
-use Rattle.decode.proofs.Writes.{write-more, write-all, plain-none, plain-more, plain-all}
+use Rattle.lists.proofs.Filled.{write-more, write-all}
+use Rattle.lists.proofs.Plain.{plain-none, plain-more, plain-all}
 use Rattle.decode.proofs.plaintext.unshift.Statement.{statement}
 use Rattle.decode.proofs.plaintext.unshift.Tie as tie
 
@@ -20,21 +21,6 @@ abbrev μ-loop : tie.MeasureT-loop
 loop-holds : tie.Need-loop-holds Inv-loop μ-loop
 loop-holds c = ((search needs), (search needs), plain-none (c .before .before .args .bv) (now (c .before .before .args .shifted)))
 
-shared-slice-read-plain-byte : tie.Need-shared-slice-read-plain-byte Inv-loop μ-loop
-shared-slice-read-plain-byte c = search needs
-
-plain-byte-requires : tie.Need-plain-byte-requires Inv-loop μ-loop
-plain-byte-requires c κs = search needs
-
-slice-write-out : tie.Need-slice-write-out Inv-loop μ-loop
-slice-write-out c = search needs
-
-add-i : tie.Need-add-i Inv-loop μ-loop
-add-i c = search needs
-
-loop-less : tie.Need-loop-less Inv-loop μ-loop
-loop-less c = search needs
-
 loop-again : tie.Need-loop-again Inv-loop μ-loop
 loop-again c = let a = c .before .before .before .before .before .before .args in
     let l = c .before .before .before .loop in
@@ -45,9 +31,6 @@ loop-again c = let a = c .before .before .before .before .before .before .args i
           ∙ ap (λ (y : ℕ). plainOf (a .bv) (take (l .i) bytes) ++ (y ∷ [])) (c .plain-byte .ensures)
           ∙ plain-more (a .bv) bytes (l .i) (omega arith),
     )
-
-same-length : tie.Need-same-length Inv-loop μ-loop
-same-length c = search needs
 
 returns : tie.Need-returns Inv-loop μ-loop
 returns c = let a = c .before .before .before .before .args in
@@ -62,11 +45,11 @@ unshift-spec =
     Inv-loop
     μ-loop
     loop-holds
-    shared-slice-read-plain-byte
-    plain-byte-requires
-    slice-write-out
-    add-i
-    loop-less
+    (λ c. search needs)
+    (λ c κs. search needs)
+    (λ c. search needs)
+    (λ c. search needs)
+    (λ c. search needs)
     loop-again
-    same-length
+    (λ c. search needs)
     returns)

@@ -1,11 +1,10 @@
 -- `copy` meets its contract: each turn writes one byte more of the bytes.
 use borrow.Author.Needs.{needs}
-use Prim.Native.Nat.{ℕ, _+_, _-_, _≤_}
-use mathlib.Core.Path.{_≡_, refl, sym, ap, _∙_}
-use mathlib.Core.List.{List}
+use Prim.Native.Nat.{_-_, _≤_}
+use mathlib.Core.Path.{_≡_, _∙_}
 use native.Mathlib.Omega.{arith}
 use denote.Ref.{now}
-use lib.ListN.{length, getD, take, set, length-set}
+use lib.ListN.{length, getD, take, length-set}
 use Rattle.numbers.proofs.Copies.{copied-not, copied-more, copied-all}
 use Rattle.numbers.proofs.bytes.copy.Statement.{statement}
 use Rattle.numbers.proofs.bytes.copy.Tie as tie

@@ -1,45 +1,21 @@
--- `page::fields::quad` meets its contract: the four bytes go to `four` in their order. Assumes nothing.
+-- `page::fields::quad` meets its contract: the four bytes are taken in their order. Assumes nothing.
 use borrow.Author.Needs.{needs}
 use Rattle.page.proofs.fields.quad.Statement.{statement}
 use Rattle.page.proofs.fields.quad.Tie as tie
 
-shared-slice-read-four : tie.Need-shared-slice-read-four
-shared-slice-read-four c = search needs
-
-add-four : tie.Need-add-four
-add-four c = search needs
-
-shared-slice-read-four-2 : tie.Need-shared-slice-read-four-2
-shared-slice-read-four-2 c = search needs
-
-add-four-2 : tie.Need-add-four-2
-add-four-2 c = search needs
-
-shared-slice-read-four-3 : tie.Need-shared-slice-read-four-3
-shared-slice-read-four-3 c = search needs
-
-add-four-3 : tie.Need-add-four-3
-add-four-3 c = search needs
-
-shared-slice-read-four-4 : tie.Need-shared-slice-read-four-4
-shared-slice-read-four-4 c = search needs
-
-four-requires : tie.Need-four-requires
-four-requires c κs = search needs
-
 returns : tie.Need-returns
-returns c = c .four .ensures
+returns c = c .quad .ensures
 
 pub quad-spec : {M : Type 1} → statement M
 quad-spec =
     tie.close
     (tie.spec
-    shared-slice-read-four
-    add-four
-    shared-slice-read-four-2
-    add-four-2
-    shared-slice-read-four-3
-    add-four-3
-    shared-slice-read-four-4
-    four-requires
+    (λ c. search needs)
+    (λ c. search needs)
+    (λ c. search needs)
+    (λ c. search needs)
+    (λ c. search needs)
+    (λ c. search needs)
+    (λ c. search needs)
+    (λ c κs. search needs)
     returns)

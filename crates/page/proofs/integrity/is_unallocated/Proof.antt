@@ -8,11 +8,8 @@ use Rattle.page.proofs.integrity.is_unallocated.Tie as tie
 returns : tie.Need-returns
 returns c = sym (unallocated-length _ (search needs))
 
-all-zero-requires : tie.Need-all-zero-requires
-all-zero-requires c κs = search needs
-
 returns-2 : tie.Need-returns-2
 returns-2 c = c .all-zero .ensures ∙ sym (unallocated-page _ (search needs))
 
 pub is-unallocated-spec : {M : Type 1} → statement M
-is-unallocated-spec = tie.close (tie.spec returns all-zero-requires returns-2)
+is-unallocated-spec = tie.close (tie.spec returns (λ c κs. search needs) returns-2)

@@ -17,28 +17,10 @@ abbrev μ-loop : tie.MeasureT-loop
 loop-holds : tie.Need-loop-holds Inv-loop μ-loop
 loop-holds c = (search needs, refl)
 
-sub-starts-with : tie.Need-sub-starts-with Inv-loop μ-loop
-sub-starts-with c = search needs
-
-part-starts-with-start : tie.Need-part-starts-with-start Inv-loop μ-loop
-part-starts-with-start c = search needs
-
-part-starts-with-end : tie.Need-part-starts-with-end Inv-loop μ-loop
-part-starts-with-end c = search needs
-
-starts-with-requires : tie.Need-starts-with-requires Inv-loop μ-loop
-starts-with-requires c κs = search needs
-
 returns : tie.Need-returns Inv-loop μ-loop
 returns c =
     let l = c .before .before .before .before .loop in
     sym (occurs-here _ _ (l .at) (search needs) (sym (c .before .starts-with .ensures) ∙ c .if1 .taken)) ∙ l .inv .1
-
-add-at : tie.Need-add-at Inv-loop μ-loop
-add-at c = search needs
-
-loop-less : tie.Need-loop-less Inv-loop μ-loop
-loop-less c = search needs
 
 loop-again : tie.Need-loop-again Inv-loop μ-loop
 loop-again c =
@@ -57,12 +39,12 @@ occurs-spec =
     Inv-loop
     μ-loop
     loop-holds
-    sub-starts-with
-    part-starts-with-start
-    part-starts-with-end
-    starts-with-requires
+    (λ c. search needs)
+    (λ c. search needs)
+    (λ c. search needs)
+    (λ c κs. search needs)
     returns
-    add-at
-    loop-less
+    (λ c. search needs)
+    (λ c. search needs)
     loop-again
     returns-2)

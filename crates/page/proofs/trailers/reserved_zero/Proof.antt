@@ -5,17 +5,11 @@ use borrow.Author.Needs.{needs}
 use Rattle.page.proofs.trailers.reserved_zero.Statement.{statement}
 use Rattle.page.proofs.trailers.reserved_zero.Tie as tie
 
-shared-slice-read-if1 : tie.Need-shared-slice-read-if1
-shared-slice-read-if1 c = search needs
-
 returns : tie.Need-returns
 returns c = sym (reserved-third _ (search needs))
-
-quad-requires : tie.Need-quad-requires
-quad-requires c κs = search needs
 
 returns-2 : tie.Need-returns-2
 returns-2 c = rw (c .quad .ensures, reserved-others (c .before .before .before .before .args .stored .now) (search needs))
 
 pub reserved-zero-spec : {M : Type 1} → statement M
-reserved-zero-spec = tie.close (tie.spec shared-slice-read-if1 returns quad-requires returns-2)
+reserved-zero-spec = tie.close (tie.spec (λ c. search needs) returns (λ c κs. search needs) returns-2)

@@ -11,11 +11,8 @@ returns c = sym (upper-below _ (search needs))
 returns-2 : tie.Need-returns-2
 returns-2 c = sym (upper-above _ (search needs))
 
-sub-result : tie.Need-sub-result
-sub-result c = search needs
-
 returns-3 : tie.Need-returns-3
 returns-3 c = sym (upper-letter _ (search needs) (search needs))
 
 pub upper-spec : {M : Type 1} → statement M
-upper-spec = tie.close (tie.spec returns returns-2 sub-result returns-3)
+upper-spec = tie.close (tie.spec returns returns-2 (λ c. search needs) returns-3)

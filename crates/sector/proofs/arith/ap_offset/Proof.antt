@@ -7,21 +7,6 @@ use Rattle.sector.proofs.Bytes.{less-of, less-mod}
 use Rattle.sector.proofs.arith.ap_offset.Statement.{statement}
 use Rattle.sector.proofs.arith.ap_offset.Tie as tie
 
-mul-bias : tie.Need-mul-bias
-mul-bias c = search needs
-
-cast-bias : tie.Need-cast-bias
-cast-bias c = search needs
-
-cast-wrapping-add-u8 : tie.Need-cast-wrapping-add-u8
-cast-wrapping-add-u8 c = search needs
-
-wrapping-add-u8-requires : tie.Need-wrapping-add-u8-requires
-wrapping-add-u8-requires c κs = search needs
-
-wrapping-sub-u8-requires : tie.Need-wrapping-sub-u8-requires
-wrapping-sub-u8-requires c κs = search needs
-
 sum : (p s r : ℕ) → r ≡ (p % 256 + s) % 256 → r % 256 ≡ (p + s) % 256
 sum p s r e = omega arith
 
@@ -30,7 +15,7 @@ bias p = omega arith
 
 returns : tie.Need-returns
 returns c =
-    let p = c .before .before .args .page in
+    let p = c .before .before .args .number in
     let s = c .before .before .args .sector in
     less-of (c .before .wrapping-add-u8 .result) (p % 16 / 2 * 4) (c .wrapping-sub-u8 .result) (search needs) (c .wrapping-sub-u8 .ensures)
     ∙ less-mod _ _ (p + s) (4 * (p % 16 / 2)) (sum p s (c .before .wrapping-add-u8 .result) (c .before .wrapping-add-u8 .ensures)) (bias p)
@@ -39,9 +24,9 @@ pub ap-offset-spec : {M : Type 1} → statement M
 ap-offset-spec =
     tie.close
     (tie.spec
-    mul-bias
-    cast-bias
-    cast-wrapping-add-u8
-    wrapping-add-u8-requires
-    wrapping-sub-u8-requires
+    (λ c. search needs)
+    (λ c. search needs)
+    (λ c. search needs)
+    (λ c κs. search needs)
+    (λ c κs. search needs)
     returns)

@@ -3,24 +3,11 @@ use borrow.Author.Needs.{needs}
 use Prim.Native.Nat.{ℕ, _*_, _%_}
 use mathlib.Core.Path.{ap, _∙_}
 use native.Mathlib.Nat.{mod-mod}
-use native.Mathlib.Omega.{arith}
 use Rattle.lists.specs.Bytes.{less}
 use Rattle.sector.specs.Byte.{shiftedOf}
 use Rattle.sector.proofs.Bytes.{less-of, less-mod, mul-mod}
 use Rattle.sector.proofs.arith.shifted.Statement.{statement}
 use Rattle.sector.proofs.arith.shifted.Tie as tie
-
-cast-wrapping-mul-u8 : tie.Need-cast-wrapping-mul-u8
-cast-wrapping-mul-u8 c = search needs
-
-wrapping-mul-u8-requires : tie.Need-wrapping-mul-u8-requires
-wrapping-mul-u8-requires c κs = search needs
-
-wrapping-sub-u8-requires : tie.Need-wrapping-sub-u8-requires
-wrapping-sub-u8-requires c κs = search needs
-
-wrapping-sub-u8-requires-2 : tie.Need-wrapping-sub-u8-requires-2
-wrapping-sub-u8-requires-2 c κs = search needs
 
 returns : tie.Need-returns
 unfolding shiftedOf
@@ -36,8 +23,8 @@ pub shifted-spec : {M : Type 1} → statement M
 shifted-spec =
     tie.close
     (tie.spec
-    cast-wrapping-mul-u8
-    wrapping-mul-u8-requires
-    wrapping-sub-u8-requires
-    wrapping-sub-u8-requires-2
+    (λ c. search needs)
+    (λ c κs. search needs)
+    (λ c κs. search needs)
+    (λ c κs. search needs)
     returns)

@@ -7,11 +7,5 @@ use Rattle.sector.proofs.arith.wrapping_mul_u8.Tie as tie
 mul-result : tie.Need-mul-result
 mul-result c = record { fits = product-fits (search needs) (search needs) }
 
-cast-result : tie.Need-cast-result
-cast-result c = search needs
-
-returns : tie.Need-returns
-returns c = search needs
-
 pub wrapping-mul-u8-spec : {M : Type 1} → statement M
-wrapping-mul-u8-spec = tie.close (tie.spec mul-result cast-result returns)
+wrapping-mul-u8-spec = tie.close (tie.spec mul-result (λ c. search needs) (λ c. search needs))

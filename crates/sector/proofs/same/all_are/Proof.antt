@@ -20,24 +20,6 @@ abbrev μ-loop : tie.MeasureT-loop
 loop-holds : tie.Need-loop-holds Inv-loop μ-loop
 loop-holds c = (search needs, refl)
 
-block-end-requires : tie.Need-block-end-requires Inv-loop μ-loop
-block-end-requires c κs = search needs
-
-sub-block-is : tie.Need-sub-block-is Inv-loop μ-loop
-sub-block-is c = search needs
-
-part-block-is-start : tie.Need-part-block-is-start Inv-loop μ-loop
-part-block-is-start c = search needs
-
-part-block-is-end : tie.Need-part-block-is-end Inv-loop μ-loop
-part-block-is-end c = search needs
-
-block-is-requires : tie.Need-block-is-requires Inv-loop μ-loop
-block-is-requires c κs = search needs
-
-loop-less : tie.Need-loop-less Inv-loop μ-loop
-loop-less c = search needs
-
 loop-again : tie.Need-loop-again Inv-loop μ-loop
 loop-again c =
     let a = c .before .before .before .before .before .before .before .args in
@@ -65,12 +47,12 @@ all-are-spec =
     Inv-loop
     μ-loop
     loop-holds
-    block-end-requires
-    sub-block-is
-    part-block-is-start
-    part-block-is-end
-    block-is-requires
-    loop-less
+    (λ c κs. search needs)
+    (λ c. search needs)
+    (λ c. search needs)
+    (λ c. search needs)
+    (λ c κs. search needs)
+    (λ c. search needs)
     loop-again
     returns
     returns-2)

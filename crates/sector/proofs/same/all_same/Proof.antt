@@ -9,14 +9,8 @@ use Rattle.sector.proofs.same.all_same.Tie as tie
 returns : tie.Need-returns
 returns c = sym (same-none _ (search needs))
 
-shared-slice-read-all-are : tie.Need-shared-slice-read-all-are
-shared-slice-read-all-are c = search needs
-
-all-are-requires : tie.Need-all-are-requires
-all-are-requires c κs = search needs
-
 returns-2 : tie.Need-returns-2
 returns-2 c = c .all-are .ensures ∙ same-first _ (c .before .before .if1 .left)
 
 pub all-same-spec : {M : Type 1} → statement M
-all-same-spec = tie.close (tie.spec returns shared-slice-read-all-are all-are-requires returns-2)
+all-same-spec = tie.close (tie.spec returns (λ c. search needs) (λ c κs. search needs) returns-2)

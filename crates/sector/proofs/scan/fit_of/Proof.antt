@@ -8,7 +8,7 @@ use denote.Ref.{now}
 use lib.ListN.{length}
 use Rattle.sector.specs.Fit.{modalAt}
 use Rattle.sector.proofs.Leads.{Leads, leads-none, leads-up, leads-stay, leads-as}
-use Rattle.sector.proofs.Found.{leads-fit}
+use Rattle.sector.proofs.StepSearch.{leads-fit}
 use Rattle.sector.proofs.scan.fit_of.Statement.{statement}
 use Rattle.sector.proofs.scan.fit_of.Tie as tie
 
@@ -23,18 +23,6 @@ loop-holds : tie.Need-loop-holds Inv-loop μ-loop
 loop-holds c =
     let s = c .before .before in
     (search needs, search needs, leads-none (modalAt (s .args .offset) (now (s .args .stored))), s .pre .1)
-
-cast-k : tie.Need-cast-k Inv-loop μ-loop
-cast-k c = search needs
-
-modal-count-requires : tie.Need-modal-count-requires Inv-loop μ-loop
-modal-count-requires c κs = search needs
-
-add-step : tie.Need-add-step Inv-loop μ-loop
-add-step c = search needs
-
-loop-less : tie.Need-loop-less Inv-loop μ-loop
-loop-less c = search needs
 
 loop-again : tie.Need-loop-again Inv-loop μ-loop
 loop-again c =
@@ -57,9 +45,6 @@ loop-again c =
       p .kept .1 .1 .1 .0 ∙ l .inv .3,
     )
 
-cast-t14 : tie.Need-cast-t14 Inv-loop μ-loop
-cast-t14 c = search needs
-
 same-length : tie.Need-same-length Inv-loop μ-loop
 same-length c = c .before .loop .inv .3 ∙ sym (c .before .before .before .before .pre .1)
 
@@ -78,11 +63,11 @@ fit-of-spec =
     Inv-loop
     μ-loop
     loop-holds
-    cast-k
-    modal-count-requires
-    add-step
-    loop-less
+    (λ c. search needs)
+    (λ c κs. search needs)
+    (λ c. search needs)
+    (λ c. search needs)
     loop-again
-    cast-t14
+    (λ c. search needs)
     same-length
     returns)

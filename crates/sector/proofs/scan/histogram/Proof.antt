@@ -1,7 +1,7 @@
 -- `histogram` meets its contract: the table tallies the bytes that were seen.
-use Prim.Native.Nat.{ℕ, _+_, _-_, _≤_, _<_}
+use Prim.Native.Nat.{ℕ, _+_, _-_, _≤_}
 use mathlib.Core.Path.{_≡_, refl, sym, ap, _∙_, subst}
-use mathlib.Core.List.{List, _∷_, [], _++_}
+use mathlib.Core.List.{_∷_, [], _++_}
 use native.Mathlib.Numerals.{add-one}
 use native.Mathlib.Omega.{arith}
 use borrow.Author.Needs.{needs}
@@ -22,18 +22,6 @@ abbrev μ-loop : tie.MeasureT-loop
 loop-holds : tie.Need-loop-holds Inv-loop μ-loop
 loop-holds c = (search needs, refl, tallies-none 256)
 
-shared-slice-read-wide : tie.Need-shared-slice-read-wide Inv-loop μ-loop
-shared-slice-read-wide c = search needs
-
-wide-requires : tie.Need-wide-requires Inv-loop μ-loop
-wide-requires c κs = search needs
-
-mul-hist : tie.Need-mul-hist Inv-loop μ-loop
-mul-hist c = search needs
-
-array-read-hist : tie.Need-array-read-hist Inv-loop μ-loop
-array-read-hist c = search needs
-
 add-hist : tie.Need-add-hist Inv-loop μ-loop
 add-hist c =
     let a = c .before .before .before .before .before .args in
@@ -41,18 +29,6 @@ add-hist c =
     let small : getD (l .hist) (c .wide .result) 0 ≤ length (take (l .i) (now (a .bytes))) =
     tallies-le 256 (l .hist) _ (l .inv .2) (c .wide .result) (c .wide .ensures .1) in
     omega (arith, length-take-le (l .i) (now (a .bytes)) (l .inv .0))
-
-mul-hist-2 : tie.Need-mul-hist-2 Inv-loop μ-loop
-mul-hist-2 c = search needs
-
-array-write-hist : tie.Need-array-write-hist Inv-loop μ-loop
-array-write-hist c = search needs
-
-add-i : tie.Need-add-i Inv-loop μ-loop
-add-i c = search needs
-
-loop-less : tie.Need-loop-less Inv-loop μ-loop
-loop-less c = search needs
 
 loop-again : tie.Need-loop-again Inv-loop μ-loop
 loop-again c =
@@ -77,14 +53,14 @@ histogram-spec =
     Inv-loop
     μ-loop
     loop-holds
-    shared-slice-read-wide
-    wide-requires
-    mul-hist
-    array-read-hist
+    (λ c. search needs)
+    (λ c κs. search needs)
+    (λ c. search needs)
+    (λ c. search needs)
     add-hist
-    mul-hist-2
-    array-write-hist
-    add-i
-    loop-less
+    (λ c. search needs)
+    (λ c. search needs)
+    (λ c. search needs)
+    (λ c. search needs)
     loop-again
     returns)

@@ -7,21 +7,9 @@ use Rattle.sector.specs.Fit.{modalOf, modalAt}
 use Rattle.sector.proofs.scan.modal_count.Statement.{statement}
 use Rattle.sector.proofs.scan.modal_count.Tie as tie
 
-write-shifted-requires : tie.Need-write-shifted-requires
-write-shifted-requires c κs = search needs
-
-histogram-requires : tie.Need-histogram-requires
-histogram-requires c κs = search needs
-
-largest-requires : tie.Need-largest-requires
-largest-requires c κs = search needs
-
-same-length : tie.Need-same-length
-same-length c = search needs
-
 returns : tie.Need-returns
 unfolding modalAt modalOf
 returns c = c .largest .ensures ∙ greatest-ext _ _ 256 (λ v h. c .before .histogram .ensures .at v h ∙ ap (count v) (c .before .before .before .before .before .write-shifted .ensures))
 
 pub modal-count-spec : {M : Type 1} → statement M
-modal-count-spec = tie.close (tie.spec write-shifted-requires histogram-requires largest-requires same-length returns)
+modal-count-spec = tie.close (tie.spec (λ c κs. search needs) (λ c κs. search needs) (λ c κs. search needs) (λ c. search needs) returns)

@@ -11,33 +11,18 @@ use Rattle.sector.proofs.Scans.{fit-long, out-long, fit-other, out-othe
 use Rattle.sector.proofs.scan.scan_sector.Statement.{statement}
 use Rattle.sector.proofs.scan.scan_sector.Tie as tie
 
-blank-fit-requires : tie.Need-blank-fit-requires
-blank-fit-requires c κs = search needs
-
 returns : tie.Need-returns
 returns c =
     let a = c .before .before .before .before .args in
     let h : 512 < length (now (a .stored)) = omega arith in
-    (c .blank-fit .ensures ∙ fit-long _ _ (now (a .out)) h, out-long _ _ _ h)
-
-blank-fit-requires-2 : tie.Need-blank-fit-requires-2
-blank-fit-requires-2 c κs = search needs
+    (c .blank .ensures ∙ fit-long _ _ (now (a .out)) h, out-long _ _ _ h)
 
 returns-2 : tie.Need-returns-2
 returns-2 c =
     let a = c .before .before .before .before .before .args in
     let h : length (now (a .stored)) ≤ 512 = omega arith in
     let n = c .before .if2 .taken in
-    (c .blank-fit2 .ensures ∙ fit-other _ _ (now (a .out)) h n, out-other _ _ _ h n)
-
-fit-of-requires : tie.Need-fit-of-requires
-fit-of-requires c κs = search needs
-
-write-shifted-requires : tie.Need-write-shifted-requires
-write-shifted-requires c κs = search needs
-
-same-length : tie.Need-same-length
-same-length c = search needs
+    (c .blank2 .ensures ∙ fit-other _ _ (now (a .out)) h n, out-other _ _ _ h n)
 
 returns-3 : tie.Need-returns-3
 unfolding sectorOf
@@ -56,11 +41,11 @@ pub scan-sector-spec : {M : Type 1} → statement M
 scan-sector-spec =
     tie.close
     (tie.spec
-    blank-fit-requires
+    (λ c κs. search needs)
     returns
-    blank-fit-requires-2
+    (λ c κs. search needs)
     returns-2
-    fit-of-requires
-    write-shifted-requires
-    same-length
+    (λ c κs. search needs)
+    (λ c κs. search needs)
+    (λ c. search needs)
     returns-3)

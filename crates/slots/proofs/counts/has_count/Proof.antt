@@ -19,30 +19,6 @@ abbrev μ-loop : tie.MeasureT-loop
 loop-holds : tie.Need-loop-holds Inv-loop μ-loop
 loop-holds c = (search needs, pair-none _ _ _)
 
-shared-slice-read-plain-byte : tie.Need-shared-slice-read-plain-byte Inv-loop μ-loop
-shared-slice-read-plain-byte c = search needs
-
-plain-byte-requires : tie.Need-plain-byte-requires Inv-loop μ-loop
-plain-byte-requires c κs = search needs
-
-add-plain-byte : tie.Need-add-plain-byte Inv-loop μ-loop
-add-plain-byte c = search needs
-
-shared-slice-read-plain-byte-2 : tie.Need-shared-slice-read-plain-byte-2 Inv-loop μ-loop
-shared-slice-read-plain-byte-2 c = search needs
-
-plain-byte-requires-2 : tie.Need-plain-byte-requires-2 Inv-loop μ-loop
-plain-byte-requires-2 c κs = search needs
-
-is-count-requires : tie.Need-is-count-requires Inv-loop μ-loop
-is-count-requires c κs = search needs
-
-add-i : tie.Need-add-i Inv-loop μ-loop
-add-i c = search needs
-
-loop-less : tie.Need-loop-less Inv-loop μ-loop
-loop-less c = search needs
-
 loop-again : tie.Need-loop-again Inv-loop μ-loop
 loop-again c =
     let y = c .before in
@@ -68,13 +44,13 @@ has-count-spec =
     Inv-loop
     μ-loop
     loop-holds
-    shared-slice-read-plain-byte
-    plain-byte-requires
-    add-plain-byte
-    shared-slice-read-plain-byte-2
-    plain-byte-requires-2
-    is-count-requires
-    add-i
-    loop-less
+    (λ c. search needs)
+    (λ c κs. search needs)
+    (λ c. search needs)
+    (λ c. search needs)
+    (λ c κs. search needs)
+    (λ c κs. search needs)
+    (λ c. search needs)
+    (λ c. search needs)
     loop-again
     returns)

@@ -9,17 +9,8 @@ use Rattle.slots.proofs.counts.may_count.Tie as tie
 returns : tie.Need-returns
 returns c = pair-to _ _ _ 0 _ false (omega arith) (pair-none _ _ _)
 
-sub-has-count : tie.Need-sub-has-count
-sub-has-count c = search needs
-
-has-count-requires : tie.Need-has-count-requires
-has-count-requires c κs = search needs
-
 returns-2 : tie.Need-returns-2
 returns-2 c = pair-to _ _ _ _ _ _ (omega arith) (c .has-count .ensures)
-
-has-count-requires-2 : tie.Need-has-count-requires-2
-has-count-requires-2 c κs = search needs
 
 returns-3 : tie.Need-returns-3
 returns-3 c = pair-to _ _ _ _ _ _ (omega arith) (c .has-count2 .ensures)
@@ -27,4 +18,4 @@ returns-3 c = pair-to _ _ _ _ _ _ (omega arith) (c .has-count2 .ensures)
 pub may-count-spec : {M : Type 1} → statement M
 may-count-spec =
     tie.close
-    (tie.spec returns sub-has-count has-count-requires returns-2 has-count-requires-2 returns-3)
+    (tie.spec returns (λ c. search needs) (λ c κs. search needs) returns-2 (λ c κs. search needs) returns-3)

@@ -11,12 +11,6 @@ use Rattle.slots.proofs.counts.page_row_count_matches.Tie as tie
 returns : tie.Need-returns
 returns c = page-short _ _ _ (c .if1 .taken)
 
-shared-slice-read-trailer-row-count-matches : tie.Need-shared-slice-read-trailer-row-count-matches
-shared-slice-read-trailer-row-count-matches c = search needs
-
-trailer-row-count-matches-requires : tie.Need-trailer-row-count-matches-requires
-trailer-row-count-matches-requires c κs = search needs
-
 returns-2 : tie.Need-returns-2
 returns-2 c =
     let k = c .before in
@@ -29,6 +23,6 @@ page-row-count-matches-spec =
     tie.close
     (tie.spec
     returns
-    shared-slice-read-trailer-row-count-matches
-    trailer-row-count-matches-requires
+    (λ c. search needs)
+    (λ c κs. search needs)
     returns-2)

@@ -13,23 +13,11 @@ use Rattle.slots.proofs.counts.trailer_row_count_matches.Tie as tie
 returns : tie.Need-returns
 returns c = few-rows _ _ _ _ (c .if1 .taken)
 
-may-count-requires : tie.Need-may-count-requires
-may-count-requires c κs = search needs
-
 returns-2 : tie.Need-returns-2
 returns-2 c =
     let a = c .before .before .before .before .args in
     let n : length (plainOf (a .bv) (a .bytes .now)) ≡ length (a .bytes .now) = plain-length (a .bv) (a .bytes .now) in
     no-pair (a .limit) (plainOf (a .bv) (a .bytes .now)) (a .n) (a .t) (rw n (sym (c .before .may-count .ensures) ∙ not-true _ (c .if2 .taken)))
-
-scanned-directory-requires : tie.Need-scanned-directory-requires
-scanned-directory-requires c κs = search needs
-
-enum-known-d : tie.Need-enum-known-d
-enum-known-d c = search needs
-
-enum-told : tie.Need-enum-told
-enum-told c = search needs
 
 returns-3 : tie.Need-returns-3
 returns-3 c =
@@ -73,11 +61,11 @@ trailer-row-count-matches-spec =
     tie.close
     (tie.spec
     returns
-    may-count-requires
+    (λ c κs. search needs)
     returns-2
-    scanned-directory-requires
-    enum-known-d
-    enum-told
+    (λ c κs. search needs)
+    (λ c. search needs)
+    (λ c. search needs)
     returns-3
     counted-back-requires
     returns-4

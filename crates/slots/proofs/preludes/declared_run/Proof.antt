@@ -5,27 +5,6 @@ use borrow.Author.Needs.{needs}
 use Rattle.slots.proofs.preludes.declared_run.Statement.{statement}
 use Rattle.slots.proofs.preludes.declared_run.Tie as tie
 
-data-end-requires : tie.Need-data-end-requires
-data-end-requires c κs = search needs
-
-mul-if1 : tie.Need-mul-if1
-mul-if1 c = search needs
-
-add-if1 : tie.Need-add-if1
-add-if1 c = search needs
-
-run-at-requires : tie.Need-run-at-requires
-run-at-requires c κs = search needs
-
-mul-run-at : tie.Need-mul-run-at
-mul-run-at c = search needs
-
-add-run-at : tie.Need-add-run-at
-add-run-at c = search needs
-
-run-at-requires-2 : tie.Need-run-at-requires-2
-run-at-requires-2 c κs = search needs
-
 returns : tie.Need-returns
 returns c =
     let d = c .before .before in
@@ -42,12 +21,12 @@ pub declared-run-spec : {M : Type 1} → statement M
 declared-run-spec =
     tie.close
     (tie.spec
-    data-end-requires
-    mul-if1
-    add-if1
-    run-at-requires
-    mul-run-at
-    add-run-at
-    run-at-requires-2
+    (λ c κs. search needs)
+    (λ c. search needs)
+    (λ c. search needs)
+    (λ c κs. search needs)
+    (λ c. search needs)
+    (λ c. search needs)
+    (λ c κs. search needs)
     returns
     returns-2)

@@ -5,29 +5,8 @@ use borrow.Author.Needs.{needs}
 use Rattle.slots.proofs.preludes.note.Statement.{statement}
 use Rattle.slots.proofs.preludes.note.Tie as tie
 
-enum-told : tie.Need-enum-told
-enum-told c = search needs
-
-note-first-requires : tie.Need-note-first-requires
-note-first-requires c κs = search needs
-
-enum-known-seen : tie.Need-enum-known-seen
-enum-known-seen c = search needs
-
-note-first-requires-2 : tie.Need-note-first-requires-2
-note-first-requires-2 c κs = search needs
-
-enum-known-seen-2 : tie.Need-enum-known-seen-2
-enum-known-seen-2 c = search needs
-
 returns : tie.Need-returns
 returns c = noted-same _ _ _ _ _ (c .before .before .seen2 .given .1) (c .if1 .taken)
-
-is-whole-requires : tie.Need-is-whole-requires
-is-whole-requires c κs = search needs
-
-enum-told-2 : tie.Need-enum-told-2
-enum-told-2 c = search needs
 
 returns-2 : tie.Need-returns-2
 returns-2 c = noted-missing _ _ _ _ _ (c .before .enum-told .given .1) (c .note-first .ensures)
@@ -51,14 +30,14 @@ pub note-spec : {M : Type 1} → statement M
 note-spec =
     tie.close
     (tie.spec
-    enum-told
-    note-first-requires
-    enum-known-seen
-    note-first-requires-2
-    enum-known-seen-2
+    (λ c. search needs)
+    (λ c κs. search needs)
+    (λ c. search needs)
+    (λ c κs. search needs)
+    (λ c. search needs)
     returns
-    is-whole-requires
-    enum-told-2
+    (λ c κs. search needs)
+    (λ c. search needs)
     returns-2
     returns-3
     returns-4

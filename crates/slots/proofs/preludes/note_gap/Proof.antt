@@ -8,20 +8,8 @@ use borrow.Author.Needs.{needs}
 use Rattle.slots.proofs.preludes.note_gap.Statement.{statement}
 use Rattle.slots.proofs.preludes.note_gap.Tie as tie
 
-add-pair-at : tie.Need-add-pair-at
-add-pair-at c = search needs
-
-pair-at-requires : tie.Need-pair-at-requires
-pair-at-requires c κs = search needs
-
 returns : tie.Need-returns
 returns c = gap-other _ _ _ _ _ _ (c .before .before .if1 .taken) (c .before .pair-at .ensures .0) (c .if2 .taken)
-
-add-start : tie.Need-add-start
-add-start c = search needs
-
-declared-run-requires : tie.Need-declared-run-requires
-declared-run-requires c κs = search needs
 
 note-requires : tie.Need-note-requires
 note-requires c κs =
@@ -44,10 +32,10 @@ pub note-gap-spec : {M : Type 1} → statement M
 note-gap-spec =
     tie.close
     (tie.spec
-    add-pair-at
-    pair-at-requires
+    (λ c. search needs)
+    (λ c κs. search needs)
     returns
-    add-start
-    declared-run-requires
+    (λ c. search needs)
+    (λ c κs. search needs)
     note-requires
     returns-2)

@@ -21,23 +21,8 @@ Inv-fields bytes bv limit n count fields seen₀ field₀ seen field = (field �
 abbrev μ-fields : tie.MeasureT-fields
 μ-fields bytes bv limit n count fields seen₀ field₀ seen field = fields - field
 
-wide-requires : tie.Need-wide-requires Inv-loop μ-loop Inv-fields μ-fields
-wide-requires c κs = search needs
-
-field-end-requires : tie.Need-field-end-requires Inv-loop μ-loop Inv-fields μ-fields
-field-end-requires c κs = search needs
-
 fields-holds : tie.Need-fields-holds Inv-loop μ-loop Inv-fields μ-fields
 fields-holds c = (search needs, prelude-none _ _)
-
-pair-at-requires : tie.Need-pair-at-requires Inv-loop μ-loop Inv-fields μ-fields
-pair-at-requires c κs = search needs
-
-add-field : tie.Need-add-field Inv-loop μ-loop Inv-fields μ-fields
-add-field c = search needs
-
-fields-less : tie.Need-fields-less Inv-loop μ-loop Inv-fields μ-fields
-fields-less c = search needs
 
 fields-again : tie.Need-fields-again Inv-loop μ-loop Inv-fields μ-fields
 fields-again c =
@@ -48,36 +33,12 @@ fields-again c =
 loop-holds : tie.Need-loop-holds Inv-loop μ-loop Inv-fields μ-fields
 loop-holds c = (search needs, gaps-none _ _ _ _ (c .before .before .before .fields .inv .1))
 
-mul-note-gap : tie.Need-mul-note-gap Inv-loop μ-loop Inv-fields μ-fields
-mul-note-gap c = search needs
-
-add-note-gap : tie.Need-add-note-gap Inv-loop μ-loop Inv-fields μ-fields
-add-note-gap c = search needs
-
-note-gap-requires : tie.Need-note-gap-requires Inv-loop μ-loop Inv-fields μ-fields
-note-gap-requires c κs = search needs
-
-is-several-requires : tie.Need-is-several-requires Inv-loop μ-loop Inv-fields μ-fields
-is-several-requires c κs = search needs
-
-add-k : tie.Need-add-k Inv-loop μ-loop Inv-fields μ-fields
-add-k c = search needs
-
-loop-less : tie.Need-loop-less Inv-loop μ-loop Inv-fields μ-fields
-loop-less c = search needs
-
 loop-again : tie.Need-loop-again Inv-loop μ-loop Inv-fields μ-fields
 loop-again c =
     let g = c .before .before in
     let l = g .before .before in
     let q = l .before .before in
     (search needs, gap-more _ _ _ _ (q .pair-at .ensures .0) (l .before .if1 .left) _ _ _ (l .loop .inv .1) (g .note-gap .ensures))
-
-add-field-2 : tie.Need-add-field-2 Inv-loop μ-loop Inv-fields μ-fields
-add-field-2 c = search needs
-
-fields-less-2 : tie.Need-fields-less-2 Inv-loop μ-loop Inv-fields μ-fields
-fields-less-2 c = search needs
 
 fields-again-2 : tie.Need-fields-again-2 Inv-loop μ-loop Inv-fields μ-fields
 fields-again-2 c =
@@ -119,23 +80,23 @@ prelude-candidates-spec =
     μ-loop
     Inv-fields
     μ-fields
-    wide-requires
-    field-end-requires
+    (λ c κs. search needs)
+    (λ c κs. search needs)
     fields-holds
-    pair-at-requires
-    add-field
-    fields-less
+    (λ c κs. search needs)
+    (λ c. search needs)
+    (λ c. search needs)
     fields-again
     loop-holds
-    mul-note-gap
-    add-note-gap
-    note-gap-requires
-    is-several-requires
-    add-k
-    loop-less
+    (λ c. search needs)
+    (λ c. search needs)
+    (λ c κs. search needs)
+    (λ c κs. search needs)
+    (λ c. search needs)
+    (λ c. search needs)
     loop-again
-    add-field-2
-    fields-less-2
+    (λ c. search needs)
+    (λ c. search needs)
     fields-again-2
     returns
     returns-2)

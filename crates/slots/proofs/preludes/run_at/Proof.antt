@@ -17,17 +17,8 @@ Inv-loop bytes bv limit at first prev₀ taken₀ live₀ pos₀ prev taken live
 abbrev μ-loop : tie.MeasureT-loop
 μ-loop bytes bv limit at first prev₀ taken₀ live₀ pos₀ prev taken live pos = limit - pos
 
-add-if1 : tie.Need-add-if1 Inv-loop μ-loop
-add-if1 c = search needs
-
 returns : tie.Need-returns Inv-loop μ-loop
 returns c = slots-past _ _ _ (c .if1 .taken)
-
-pair-at-requires : tie.Need-pair-at-requires Inv-loop μ-loop
-pair-at-requires c κs = search needs
-
-is-offset-requires : tie.Need-is-offset-requires Inv-loop μ-loop
-is-offset-requires c κs = search needs
 
 returns-2 : tie.Need-returns-2 Inv-loop μ-loop
 returns-2 c =
@@ -35,23 +26,11 @@ returns-2 c =
     let s = q .before .before .before in
     slots-none _ _ _ _ (fits _ _ _ (s .pre .0)) (q .before .if1 .left) (q .pair-at .ensures .0) (sym (c .before .is-offset .ensures) ∙ not-true _ (c .if2 .taken))
 
-add-pos : tie.Need-add-pos Inv-loop μ-loop
-add-pos c = search needs
-
 loop-holds : tie.Need-loop-holds Inv-loop μ-loop
 loop-holds c =
     let q = c .before .before in
     let s = q .before .before .before in
     going-first _ _ _ _ (fits _ _ _ (s .pre .0)) (q .before .if1 .left) (q .pair-at .ensures .0) (sym (c .before .is-offset .ensures) ∙ not-false _ (c .if2 .left))
-
-add-loop : tie.Need-add-loop Inv-loop μ-loop
-add-loop c = search needs
-
-pair-at-requires-2 : tie.Need-pair-at-requires-2 Inv-loop μ-loop
-pair-at-requires-2 c κs = search needs
-
-is-offset-requires-2 : tie.Need-is-offset-requires-2 Inv-loop μ-loop
-is-offset-requires-2 c κs = search needs
 
 returns-3 : tie.Need-returns-3 Inv-loop μ-loop
 returns-3 c =
@@ -66,18 +45,6 @@ returns-4 c =
     let l = w .before .before in
     let s = l .before .before .before .before .before .before in
     stop-above _ _ _ _ _ _ _ _ (l .loop .inv) (fits _ _ _ (s .pre .0)) (w .before .loop-test .taken) (w .pair-at2 .ensures .0) (c .before .before .before .if3 .taken) (c .if5 .taken)
-
-add-live : tie.Need-add-live Inv-loop μ-loop
-add-live c = search needs
-
-add-taken : tie.Need-add-taken Inv-loop μ-loop
-add-taken c = search needs
-
-add-pos-2 : tie.Need-add-pos-2 Inv-loop μ-loop
-add-pos-2 c = search needs
-
-loop-less : tie.Need-loop-less Inv-loop μ-loop
-loop-less c = search needs
 
 loop-again : tie.Need-loop-again Inv-loop μ-loop
 loop-again c =
@@ -101,21 +68,21 @@ run-at-spec =
     (tie.spec
     Inv-loop
     μ-loop
-    add-if1
+    (λ c. search needs)
     returns
-    pair-at-requires
-    is-offset-requires
+    (λ c κs. search needs)
+    (λ c κs. search needs)
     returns-2
-    add-pos
+    (λ c. search needs)
     loop-holds
-    add-loop
-    pair-at-requires-2
-    is-offset-requires-2
+    (λ c. search needs)
+    (λ c κs. search needs)
+    (λ c κs. search needs)
     returns-3
     returns-4
-    add-live
-    add-taken
-    add-pos-2
-    loop-less
+    (λ c. search needs)
+    (λ c. search needs)
+    (λ c. search needs)
+    (λ c. search needs)
     loop-again
     returns-5)

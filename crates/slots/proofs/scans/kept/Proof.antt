@@ -1,4 +1,4 @@
--- `kept` meets its contract, a law of `keptOf` for each way out.
+-- `kept` meets its contract, a law of `strongerKept` for each way out.
 use Rattle.slots.proofs.Sweeps.{kept-few, kept-far, kept-run}
 use borrow.Author.Needs.{needs}
 use Rattle.slots.proofs.scans.kept.Statement.{statement}
@@ -10,17 +10,8 @@ returns c = kept-few _ _ _ (c .if1 .taken)
 returns-2 : tie.Need-returns-2
 returns-2 c = kept-far _ _ _ (c .if2 .taken)
 
-mul-t9 : tie.Need-mul-t9
-mul-t9 c = search needs
-
-add-t10 : tie.Need-add-t10
-add-t10 c = search needs
-
-better-requires : tie.Need-better-requires
-better-requires c κs = search needs
-
 returns-3 : tie.Need-returns-3
 returns-3 c = kept-run _ _ _ _ (c .before .before .if1 .left) (c .before .if2 .left) (c .better .ensures)
 
 pub kept-spec : {M : Type 1} → statement M
-kept-spec = tie.close (tie.spec returns returns-2 mul-t9 add-t10 better-requires returns-3)
+kept-spec = tie.close (tie.spec returns returns-2 (λ c. search needs) (λ c. search needs) (λ c κs. search needs) returns-3)

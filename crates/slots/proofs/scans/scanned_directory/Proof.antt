@@ -7,20 +7,14 @@ use borrow.Author.Needs.{needs}
 use Rattle.slots.proofs.scans.scanned_directory.Statement.{statement}
 use Rattle.slots.proofs.scans.scanned_directory.Tie as tie
 
-sweep-requires : tie.Need-sweep-requires
-sweep-requires c κs = search needs
-
 returns : tie.Need-returns
 returns c =
     let s = c .before .before .before in
     let h : length (s .args .bytes .now) ≤ s .args .limit = omega arith in
     scanned-end (s .args .limit) (s .args .bv) (s .args .bytes .now) (c .sweep .result) h (c .sweep .ensures)
 
-sweep-requires-2 : tie.Need-sweep-requires-2
-sweep-requires-2 c κs = search needs
-
 returns-2 : tie.Need-returns-2
 returns-2 c = c .sweep2 .ensures
 
 pub scanned-directory-spec : {M : Type 1} → statement M
-scanned-directory-spec = tie.close (tie.spec sweep-requires returns sweep-requires-2 returns-2)
+scanned-directory-spec = tie.close (tie.spec (λ c κs. search needs) returns (λ c κs. search needs) returns-2)

@@ -16,31 +16,13 @@ Inv-loop bytes bv limit near₀ far₀ best₀ s₀ near far best s = Swept limi
 abbrev μ-loop : tie.MeasureT-loop
 μ-loop bytes bv limit near₀ far₀ best₀ s₀ near far best s = s
 
-no-tail-requires : tie.Need-no-tail-requires Inv-loop μ-loop
-no-tail-requires c κs = search needs
-
-no-tail-requires-2 : tie.Need-no-tail-requires-2 Inv-loop μ-loop
-no-tail-requires-2 c κs = search needs
-
 loop-holds : tie.Need-loop-holds Inv-loop μ-loop
 loop-holds c = swept-none _ _ _ _ (c .before .no-tail .ensures) (c .no-tail2 .ensures)
-
-sub-tail-at : tie.Need-sub-tail-at Inv-loop μ-loop
-sub-tail-at c = search needs
 
 tail-at-requires : tie.Need-tail-at-requires Inv-loop μ-loop
 tail-at-requires c κs =
     let l = c .before in
     (search needs, swept-next _ _ _ _ _ _ _ (l .loop .inv) (omega arith))
-
-sub-kept : tie.Need-sub-kept Inv-loop μ-loop
-sub-kept c = search needs
-
-kept-requires : tie.Need-kept-requires Inv-loop μ-loop
-kept-requires c κs = search needs
-
-sub-tail-at-2 : tie.Need-sub-tail-at-2 Inv-loop μ-loop
-sub-tail-at-2 c = search needs
 
 tail-at-requires-2 : tie.Need-tail-at-requires-2 Inv-loop μ-loop
 tail-at-requires-2 c κs =
@@ -49,18 +31,6 @@ tail-at-requires-2 c κs =
     let b = l .before .before .before .before in
     let le : b .args .limit ≤ length (plainOf (b .args .bv) (b .args .bytes .now)) = fits _ _ _ (b .pre) in
     (search needs, swept-next _ _ _ _ _ _ _ (swept-more _ _ _ _ _ _ _ (l .loop .inv) (omega arith) _ _ le (t .tail-at .ensures) (c .kept .ensures)) (omega arith))
-
-sub-kept-2 : tie.Need-sub-kept-2 Inv-loop μ-loop
-sub-kept-2 c = search needs
-
-kept-requires-2 : tie.Need-kept-requires-2 Inv-loop μ-loop
-kept-requires-2 c κs = search needs
-
-sub-s : tie.Need-sub-s Inv-loop μ-loop
-sub-s c = search needs
-
-loop-less : tie.Need-loop-less Inv-loop μ-loop
-loop-less c = search needs
 
 loop-again : tie.Need-loop-again Inv-loop μ-loop
 loop-again c =
@@ -78,12 +48,6 @@ tail-at-requires-3 c κs =
     let a = l .before .before .before .before .args in
     (search needs, swept-next (a .limit) (plainOf (a .bv) (a .bytes .now)) (l .loop .s) 0 (l .loop .near) (l .loop .far) (l .loop .best) (l .loop .inv) (omega arith))
 
-kept-requires-3 : tie.Need-kept-requires-3 Inv-loop μ-loop
-kept-requires-3 c κs = search needs
-
-directory-of-requires : tie.Need-directory-of-requires Inv-loop μ-loop
-directory-of-requires c κs = search needs
-
 returns : tie.Need-returns Inv-loop μ-loop
 returns c =
     let k = c .before in
@@ -94,9 +58,6 @@ returns c =
     let le : b .args .limit ≤ length (plainOf (b .args .bv) (b .args .bytes .now)) = fits _ _ _ (b .pre) in
     c .directory-of .ensures ∙ swept-all _ _ _ _ _ _ (swept-more _ _ _ _ _ _ _ (l .loop .inv) (omega arith) _ _ le (t .tail-at3 .ensures) (k .kept3 .ensures)) refl
 
-directory-of-requires-2 : tie.Need-directory-of-requires-2 Inv-loop μ-loop
-directory-of-requires-2 c κs = search needs
-
 returns-2 : tie.Need-returns-2 Inv-loop μ-loop
 returns-2 c = c .directory-of2 .ensures ∙ swept-all _ _ _ _ _ _ (c .before .before .before .loop .inv) (omega arith)
 
@@ -106,23 +67,23 @@ sweep-spec =
     (tie.spec
     Inv-loop
     μ-loop
-    no-tail-requires
-    no-tail-requires-2
+    (λ c κs. search needs)
+    (λ c κs. search needs)
     loop-holds
-    sub-tail-at
+    (λ c. search needs)
     tail-at-requires
-    sub-kept
-    kept-requires
-    sub-tail-at-2
+    (λ c. search needs)
+    (λ c κs. search needs)
+    (λ c. search needs)
     tail-at-requires-2
-    sub-kept-2
-    kept-requires-2
-    sub-s
-    loop-less
+    (λ c. search needs)
+    (λ c κs. search needs)
+    (λ c. search needs)
+    (λ c. search needs)
     loop-again
     tail-at-requires-3
-    kept-requires-3
-    directory-of-requires
+    (λ c κs. search needs)
+    (λ c κs. search needs)
     returns
-    directory-of-requires-2
+    (λ c κs. search needs)
     returns-2)

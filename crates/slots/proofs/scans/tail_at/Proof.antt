@@ -10,20 +10,11 @@ use borrow.Author.Needs.{needs}
 use Rattle.slots.proofs.scans.tail_at.Statement.{statement}
 use Rattle.slots.proofs.scans.tail_at.Tie as tie
 
-add-if1 : tie.Need-add-if1
-add-if1 c = search needs
-
-no-tail-requires : tie.Need-no-tail-requires
-no-tail-requires c κs = search needs
-
 returns : tie.Need-returns
 returns c = c .no-tail .ensures ∙ tail-end _ _ _ (c .before .if1 .taken)
 
-pair-at-requires : tie.Need-pair-at-requires
-pair-at-requires c κs = search needs
-
-join-requires : tie.Need-join-requires
-join-requires c κs =
+extend-requires : tie.Need-extend-requires
+extend-requires c κs =
     let b = c .before .before .before in
     let a = b .args in
     let f = tail-few (a .limit) (plainOf (a .bv) (a .bytes .now)) (a .s + 2) (a .next) (b .pre .1) in
@@ -36,8 +27,8 @@ returns-2 c =
     let p = plainOf (a .bv) (a .bytes .now) in
     let n : a .limit ≤ length (a .bytes .now) = b .pre .0 .0 in
     let le : a .limit ≤ length p = rw plain-length n in
-    tail-more (a .limit) p (a .s) (c .before .pair-at .result) (a .next) (c .join .result) le (c .before .before .if1 .left) (c .before .pair-at .ensures .0) (b .pre .1) (c .join .ensures)
+    tail-more (a .limit) p (a .s) (c .before .pair-at .result) (a .next) (c .extend .result) le (c .before .before .if1 .left) (c .before .pair-at .ensures .0) (b .pre .1) (c .extend .ensures)
 
 pub tail-at-spec : {M : Type 1} → statement M
 tail-at-spec =
-    tie.close (tie.spec add-if1 no-tail-requires returns pair-at-requires join-requires returns-2)
+    tie.close (tie.spec (λ c. search needs) (λ c κs. search needs) returns (λ c κs. search needs) extend-requires returns-2)

@@ -1,46 +1,25 @@
--- `tabled` meets its contract, by what is listed.
-use Rattle.slotted.proofs.Deciding.{sound-declared, sound-scanned}
+-- `tabled` meets its contract: the table holds the slots.
+use Rattle.slotted.proofs.Parses.{tabled-is}
 use borrow.Author.Needs.{needs}
 use Rattle.slotted.proofs.directories.tabled.Statement.{statement}
 use Rattle.slotted.proofs.directories.tabled.Tie as tie
 
-enum-told : tie.Need-enum-told
-enum-told c = search needs
-
-no-directory-requires : tie.Need-no-directory-requires
-no-directory-requires c κs = search needs
-
-enum-known-listed : tie.Need-enum-known-listed
-enum-known-listed c = search needs
-
-directory-at-requires : tie.Need-directory-at-requires
-directory-at-requires c κs = sound-declared _ _ _ _ (c .before .before .before .before .pre) (c .before .listed .given .1) .within
-
-enum-known-listed-2 : tie.Need-enum-known-listed-2
-enum-known-listed-2 c = search needs
-
-directory-at-requires-2 : tie.Need-directory-at-requires-2
-directory-at-requires-2 c κs = sound-scanned _ _ _ _ (c .before .before .before .before .pre) (c .before .listed2 .given .1) .within
-
 returns : tie.Need-returns
-returns c = rw (c .before .enum-told .given .1) (c .no-directory .ensures)
-
-returns-2 : tie.Need-returns-2
-returns-2 c = rw (c .before .before .listed .given .1) (c .directory-at .ensures)
-
-returns-3 : tie.Need-returns-3
-returns-3 c = rw (c .before .before .listed2 .given .1) (c .directory-at2 .ensures)
+returns c =
+    let h = c .before in
+    let n = h .before in
+    let s = n .before in
+    let a = s .before .before .args in
+    tabled-is (a .plain .now) (a .listed) (s .start .result) (n .count .result) (h .declared-in .result) (c .slot-table .result) (s .start .ensures) (n .count .ensures) (h .declared-in .ensures) (c .slot-table .ensures)
 
 pub tabled-spec : {M : Type 1} → statement M
 tabled-spec =
     tie.close
     (tie.spec
-    enum-told
-    no-directory-requires
-    enum-known-listed
-    directory-at-requires
-    enum-known-listed-2
-    directory-at-requires-2
-    returns
-    returns-2
-    returns-3)
+    (λ c κs. search needs)
+    (λ c κs. search needs)
+    (λ c κs. search needs)
+    (λ c κs. search needs)
+    (λ c. search needs)
+    (λ c. search needs)
+    returns)

@@ -1,48 +1,49 @@
--- `check_inside` meets its contract, by what is listed.
-use mathlib.Core.Path.{sym, ap, _∙_}
-use Rattle.slotted.specs.Decisions.{checkedIn}
-use Rattle.slotted.proofs.Deciding.{sound-declared, sound-scanned}
+-- `check_inside` meets its contract, by whether an offset points inside and by the leniency.
+use borrow.Author.Tests.{not-true, not-false}
+use mathlib.Core.Path.{_∙_}
+use Rattle.slotted.specs.Directory.{insideOf}
+use Rattle.slotted.proofs.Decisions.{checked-none, checked-refused, checked-dropped, checked-at}
 use borrow.Author.Needs.{needs}
 use Rattle.slotted.proofs.verdicts.check_inside.Statement.{statement}
 use Rattle.slotted.proofs.verdicts.check_inside.Tie as tie
 
-enum-told : tie.Need-enum-told
-enum-told c = search needs
-
-enum-known-listed : tie.Need-enum-known-listed
-enum-known-listed c = search needs
-
-check-at-requires : tie.Need-check-at-requires
-check-at-requires c κs = sound-declared _ _ _ _ (c .before .before .before .before .pre) (c .before .listed .given .1) .within
-
-enum-known-listed-2 : tie.Need-enum-known-listed-2
-enum-known-listed-2 c = search needs
-
-check-at-requires-2 : tie.Need-check-at-requires-2
-check-at-requires-2 c κs = sound-scanned _ _ _ _ (c .before .before .before .before .pre) (c .before .listed2 .given .1) .within
-
 returns : tie.Need-returns
-returns c = search needs
+returns c =
+    let i = c .before .before in
+    let n = i .before in
+    let s = n .before in
+    let a = s .before .before .args in
+    checked-none (a .lenient) (a .d) _ (insideOf (a .plain .now) (s .start .result) (n .count .result)) (i .inside-at .result) (i .inside-at .ensures) (c .if1 .taken)
+    ∙ checked-at (a .plain .now) (a .lenient) (a .d) (s .start .result) (n .count .result) (s .start .ensures) (n .count .ensures)
 
 returns-2 : tie.Need-returns-2
 returns-2 c =
-    let a = c .before .before .before .before .before .args in
-    c .check-at .ensures ∙ sym (ap (checkedIn (a .plain .now) (a .lenient) (a .d)) (c .before .before .listed .given .1))
+    let i = c .before .before .before .before in
+    let n = i .before in
+    let s = n .before in
+    let a = s .before .before .args in
+    c .refuse .ensures ∙ checked-refused (a .lenient) (a .d) _ (insideOf (a .plain .now) (s .start .result) (n .count .result)) (i .inside-at .result) (i .inside-at .ensures) (c .before .before .if1 .left) (not-true (a .lenient) (c .before .if2 .taken))
+    ∙ checked-at (a .plain .now) (a .lenient) (a .d) (s .start .result) (n .count .result) (s .start .ensures) (n .count .ensures)
 
 returns-3 : tie.Need-returns-3
 returns-3 c =
-    let a = c .before .before .before .before .before .args in
-    c .check-at2 .ensures ∙ sym (ap (checkedIn (a .plain .now) (a .lenient) (a .d)) (c .before .before .listed2 .given .1))
+    let i = c .before .before .before in
+    let n = i .before in
+    let s = n .before in
+    let a = s .before .before .args in
+    checked-dropped (a .lenient) (a .d) _ (insideOf (a .plain .now) (s .start .result) (n .count .result)) (i .inside-at .result) (i .inside-at .ensures) (c .before .if1 .left) (not-false (a .lenient) (c .if2 .left))
+    ∙ checked-at (a .plain .now) (a .lenient) (a .d) (s .start .result) (n .count .result) (s .start .ensures) (n .count .ensures)
 
 pub check-inside-spec : {M : Type 1} → statement M
 check-inside-spec =
     tie.close
     (tie.spec
-    enum-told
-    enum-known-listed
-    check-at-requires
-    enum-known-listed-2
-    check-at-requires-2
+    (λ c κs. search needs)
+    (λ c κs. search needs)
+    (λ c κs. search needs)
     returns
+    (λ c. search needs)
+    (λ c. search needs)
+    (λ c κs. search needs)
     returns-2
     returns-3)

@@ -1,22 +1,13 @@
 -- `decide` meets its contract: the length, where the directory is, the offsets inside it.
 use mathlib.Core.Path.{refl, ap, _∙_}
-use Rattle.slotted.specs.Decisions.{checkedOf}
-use Rattle.slotted.proofs.Deciding.{decided-short, decided-page, found-sound}
+use Rattle.slotted.specs.Decisions.{insideChecked}
+use Rattle.slotted.proofs.Decisions.{decided-short, decided-page, found-sound}
 use borrow.Author.Needs.{needs}
 use Rattle.slotted.proofs.verdicts.decide.Statement.{statement}
 use Rattle.slotted.proofs.verdicts.decide.Tie as tie
 
-refuse-requires : tie.Need-refuse-requires
-refuse-requires c κs = search needs
-
 returns : tie.Need-returns
 returns c = c .refuse .ensures ∙ decided-short _ _ _ (c .before .if1 .taken)
-
-shared-slice-read-n : tie.Need-shared-slice-read-n
-shared-slice-read-n c = search needs
-
-find-requires : tie.Need-find-requires
-find-requires c κs = search needs
 
 check-inside-requires : tie.Need-check-inside-requires
 check-inside-requires c κs =
@@ -27,15 +18,15 @@ returns-2 : tie.Need-returns-2
 returns-2 c =
     let f = c .before in
     let a = f .before .before .before .before .args in
-    c .check-inside .ensures ∙ ap (checkedOf (a .plain .now) (a .lenient)) (f .find .ensures) ∙ decided-page (a .limit) (a .plain .now) (a .lenient) _ (f .before .before .if1 .left) refl
+    c .check-inside .ensures ∙ ap (insideChecked (a .plain .now) (a .lenient)) (f .find .ensures) ∙ decided-page (a .limit) (a .plain .now) (a .lenient) _ (f .before .before .if1 .left) refl
 
 pub decide-spec : {M : Type 1} → statement M
 decide-spec =
     tie.close
     (tie.spec
-    refuse-requires
+    (λ c κs. search needs)
     returns
-    shared-slice-read-n
-    find-requires
+    (λ c. search needs)
+    (λ c κs. search needs)
     check-inside-requires
     returns-2)

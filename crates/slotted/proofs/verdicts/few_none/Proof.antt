@@ -3,17 +3,11 @@ use borrow.Author.Needs.{needs}
 use Rattle.slotted.proofs.verdicts.few_none.Statement.{statement}
 use Rattle.slotted.proofs.verdicts.few_none.Tie as tie
 
-take-requires : tie.Need-take-requires
-take-requires c κs = search needs
-
 returns : tie.Need-returns
 returns c = rw (c .before .if1 .taken) (c .take .ensures)
-
-refuse-requires : tie.Need-refuse-requires
-refuse-requires c κs = search needs
 
 returns-2 : tie.Need-returns-2
 returns-2 c = rw (c .before .if1 .left) (c .refuse .ensures)
 
 pub few-none-spec : {M : Type 1} → statement M
-few-none-spec = tie.close (tie.spec take-requires returns refuse-requires returns-2)
+few-none-spec = tie.close (tie.spec (λ c κs. search needs) returns (λ c κs. search needs) returns-2)

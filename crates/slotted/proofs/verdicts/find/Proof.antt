@@ -7,16 +7,10 @@ use Rattle.slots.specs.declared.scans.Found.{Found}
 use Rattle.slots.specs.declared.preludes.Prelude.{Prelude}
 use Rattle.answers.specs.declared.notices.WarningKind.the-variants as warning
 use Rattle.slotted.specs.Decisions.{fewOf, unconfirmedOf, manyOf}
-use Rattle.slotted.proofs.Deciding.{scanned-plain, prelude-plain, found-zero, found-few, found-many}
+use Rattle.slotted.proofs.Decisions.{scanned-plain, prelude-plain, found-zero, found-few, found-many}
 use borrow.Author.Needs.{needs}
 use Rattle.slotted.proofs.verdicts.find.Statement.{statement}
 use Rattle.slotted.proofs.verdicts.find.Tie as tie
-
-scanned-directory-requires : tie.Need-scanned-directory-requires
-scanned-directory-requires c κs = search needs
-
-unconfirmed-requires : tie.Need-unconfirmed-requires
-unconfirmed-requires c κs = search needs
 
 returns : tie.Need-returns
 returns c =
@@ -26,12 +20,6 @@ returns c =
     let f = scanned-plain (a .limit) (a .plain .now) (λ i. omega (arith, k .shared-slice-known .given i)) (s .scanned-directory .result) (s .scanned-directory .ensures) in
     c .unconfirmed .ensures ∙ ap (λ (x : Found). unconfirmedOf x (a .lenient) false warning.Nothing) f ∙ found-zero (a .limit) (a .plain .now) (a .n) (a .lenient) (s .before .if1 .taken)
 
-prelude-candidates-requires : tie.Need-prelude-candidates-requires
-prelude-candidates-requires c κs = search needs
-
-few-requires : tie.Need-few-requires
-few-requires c κs = search needs
-
 returns-2 : tie.Need-returns-2
 returns-2 c =
     let s = c .before .before in
@@ -39,9 +27,6 @@ returns-2 c =
     let a = k .before .args in
     let f = prelude-plain (a .limit) (a .plain .now) (λ i. omega (arith, k .shared-slice-known .given i)) (a .n) (s .prelude-candidates .result) (s .prelude-candidates .ensures) in
     c .few .ensures ∙ ap (λ (x : Prelude). fewOf x (a .n) (a .lenient)) f ∙ found-few (a .limit) (a .plain .now) (a .n) (a .lenient) (s .before .if1 .left) (c .before .if2 .taken)
-
-many-requires : tie.Need-many-requires
-many-requires c κs = search needs
 
 returns-3 : tie.Need-returns-3
 returns-3 c =
@@ -55,11 +40,11 @@ pub find-spec : {M : Type 1} → statement M
 find-spec =
     tie.close
     (tie.spec
-    scanned-directory-requires
-    unconfirmed-requires
+    (λ c κs. search needs)
+    (λ c κs. search needs)
     returns
-    prelude-candidates-requires
-    few-requires
+    (λ c κs. search needs)
+    (λ c κs. search needs)
     returns-2
-    many-requires
+    (λ c κs. search needs)
     returns-3)

@@ -1,5 +1,5 @@
 -- `is_inside` meets its contract, test by test.
-use Rattle.slotted.proofs.Deciding.{inside-zero, inside-before, inside-after}
+use Rattle.slotted.proofs.Decisions.{inside-zero, inside-before, inside-after}
 use Rattle.slotted.proofs.verdicts.is_inside.Statement.{statement}
 use Rattle.slotted.proofs.verdicts.is_inside.Tie as tie
 

@@ -6,55 +6,16 @@ use mathlib.Core.Bool.{true}
 use Rattle.slots.specs.declared.scans.Found.{Found}
 use Rattle.answers.specs.declared.notices.WarningKind.the-variants as warning
 use Rattle.slotted.specs.Decisions.{unconfirmedOf}
-use Rattle.slotted.proofs.Deciding.{scanned-plain}
+use Rattle.slotted.proofs.Decisions.{scanned-plain}
 use borrow.Author.Needs.{needs}
 use Rattle.slotted.proofs.verdicts.many.Statement.{statement}
 use Rattle.slotted.proofs.verdicts.many.Tie as tie
 
-enum-known-found : tie.Need-enum-known-found
-enum-known-found c = search needs
-
-take-requires : tie.Need-take-requires
-take-requires c κs = search needs
-
-enum-told : tie.Need-enum-told
-enum-told c = search needs
-
-scanned-directory-requires : tie.Need-scanned-directory-requires
-scanned-directory-requires c κs = search needs
-
-unconfirmed-requires : tie.Need-unconfirmed-requires
-unconfirmed-requires c κs = search needs
-
-enum-known-found-2 : tie.Need-enum-known-found-2
-enum-known-found-2 c = search needs
-
-refuse-requires : tie.Need-refuse-requires
-refuse-requires c κs = search needs
-
 returns : tie.Need-returns
 returns c = rw (c .before .before .before .found2 .given .1, not-true (c .before .before .before .before .before .before .args .lenient) (c .before .if1 .taken)) (c .refuse .ensures)
 
-scanned-directory-requires-2 : tie.Need-scanned-directory-requires-2
-scanned-directory-requires-2 c κs = search needs
-
-unconfirmed-requires-2 : tie.Need-unconfirmed-requires-2
-unconfirmed-requires-2 c κs = search needs
-
-enum-told-2 : tie.Need-enum-told-2
-enum-told-2 c = search needs
-
-refuse-requires-2 : tie.Need-refuse-requires-2
-refuse-requires-2 c κs = search needs
-
 returns-2 : tie.Need-returns-2
 returns-2 c = rw (c .before .before .enum-told2 .given .1, not-true (c .before .before .before .before .before .args .lenient) (c .before .if2 .taken)) (c .refuse2 .ensures)
-
-scanned-directory-requires-3 : tie.Need-scanned-directory-requires-3
-scanned-directory-requires-3 c κs = search needs
-
-unconfirmed-requires-3 : tie.Need-unconfirmed-requires-3
-unconfirmed-requires-3 c κs = search needs
 
 returns-3 : tie.Need-returns-3
 returns-3 c = rw (c .before .before .found .given .1) (c .take .ensures)
@@ -89,21 +50,21 @@ pub many-spec : {M : Type 1} → statement M
 many-spec =
     tie.close
     (tie.spec
-    enum-known-found
-    take-requires
-    enum-told
-    scanned-directory-requires
-    unconfirmed-requires
-    enum-known-found-2
-    refuse-requires
+    (λ c. search needs)
+    (λ c κs. search needs)
+    (λ c. search needs)
+    (λ c κs. search needs)
+    (λ c κs. search needs)
+    (λ c. search needs)
+    (λ c κs. search needs)
     returns
-    scanned-directory-requires-2
-    unconfirmed-requires-2
-    enum-told-2
-    refuse-requires-2
+    (λ c κs. search needs)
+    (λ c κs. search needs)
+    (λ c. search needs)
+    (λ c κs. search needs)
     returns-2
-    scanned-directory-requires-3
-    unconfirmed-requires-3
+    (λ c κs. search needs)
+    (λ c κs. search needs)
     returns-3
     returns-4
     returns-5

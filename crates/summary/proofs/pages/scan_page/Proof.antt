@@ -6,13 +6,10 @@ use lib.ListN.{length}
 use Rattle.answers.specs.declared.kinds.Answer.the-variants.{Accepted, WrongPageLength, WrongBufferLength}
 use Rattle.sector.specs.declared.fits.Fit.{Fit}
 use Rattle.summary.proofs.Outcomes.{scan-page, scan-room, scan-good, scan-answer, scan-buffer}
-use Rattle.summary.proofs.Renewed.{refitted-all, reshifted-all}
+use Rattle.summary.proofs.Rescans.{refitted-all, reshifted-all}
 use borrow.Author.Needs.{needs}
 use Rattle.summary.proofs.pages.scan_page.Statement.{statement}
 use Rattle.summary.proofs.pages.scan_page.Tie as tie
-
-blank-fits-requires : tie.Need-blank-fits-requires
-blank-fits-requires c κs = search needs
 
 returns : tie.Need-returns
 returns c =
@@ -21,8 +18,8 @@ returns c =
     let m = length (now (a .shifted)) in
     let w = scan-page n m (c .if1 .taken) in (
       ap (λ (fs : List Fit). record { answer = WrongPageLength n; fits = fs }) (c .before .blank-fits .ensures)
-          ∙ scan-answer (a .page) (now (a .stored)) (now (a .shifted)) (WrongPageLength n) w,
-      scan-buffer (a .page) (now (a .stored)) (now (a .shifted)) (WrongPageLength n) w,
+          ∙ scan-answer (a .number) (now (a .stored)) (now (a .shifted)) (WrongPageLength n) w,
+      scan-buffer (a .number) (now (a .stored)) (now (a .shifted)) (WrongPageLength n) w,
     )
 
 returns-2 : tie.Need-returns-2
@@ -32,15 +29,9 @@ returns-2 c =
     let m = length (now (a .shifted)) in
     let w = scan-room n m (c .before .if1 .left) (c .if2 .taken) in (
       ap (λ (fs : List Fit). record { answer = WrongBufferLength m; fits = fs }) (c .before .before .blank-fits .ensures)
-          ∙ scan-answer (a .page) (now (a .stored)) (now (a .shifted)) (WrongBufferLength m) w,
-      scan-buffer (a .page) (now (a .stored)) (now (a .shifted)) (WrongBufferLength m) w,
+          ∙ scan-answer (a .number) (now (a .stored)) (now (a .shifted)) (WrongBufferLength m) w,
+      scan-buffer (a .number) (now (a .stored)) (now (a .shifted)) (WrongBufferLength m) w,
     )
-
-rescan-requires : tie.Need-rescan-requires
-rescan-requires c κs = search needs
-
-same-length : tie.Need-same-length
-same-length c = search needs
 
 returns-3 : tie.Need-returns-3
 returns-3 c =
@@ -52,14 +43,14 @@ returns-3 c =
     let blank = b .before .before .blank-fits in
     let scan = c .before .before .rescan in (
       ap (λ (fs : List Fit). record { answer = Accepted; fits = fs })
-          (scan .ensures .0 ∙ refitted-all (a .page) (now (a .stored)) (blank .result) (ap length (blank .ensures)))
-          ∙ scan-answer (a .page) (now (a .stored)) (now (a .shifted)) Accepted w,
+          (scan .ensures .0 ∙ refitted-all (a .number) (now (a .stored)) (blank .result) (ap length (blank .ensures)))
+          ∙ scan-answer (a .number) (now (a .stored)) (now (a .shifted)) Accepted w,
       scan .ensures .1
-          ∙ reshifted-all (a .page) (now (a .stored)) e (now (a .shifted)) d
-          ∙ scan-buffer (a .page) (now (a .stored)) (now (a .shifted)) Accepted w,
+          ∙ reshifted-all (a .number) (now (a .stored)) e (now (a .shifted)) d
+          ∙ scan-buffer (a .number) (now (a .stored)) (now (a .shifted)) Accepted w,
     )
 
 pub scan-page-spec : {M : Type 1} → statement M
 scan-page-spec =
     tie.close
-    (tie.spec blank-fits-requires returns returns-2 rescan-requires same-length returns-3)
+    (tie.spec (λ c κs. search needs) returns returns-2 (λ c κs. search needs) (λ c. search needs) returns-3)

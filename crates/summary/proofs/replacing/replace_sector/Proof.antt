@@ -8,7 +8,7 @@ use lib.ListN.{length}
 use Rattle.answers.specs.declared.kinds.Answer.{Answer}
 use Rattle.answers.specs.declared.kinds.Answer.the-variants.{Accepted, WrongPageLength, WrongBufferLength, BadReplacement}
 use Rattle.sector.specs.declared.fits.Fit.{Fit}
-use Rattle.summary.specs.Page.{endOf}
+use Rattle.summary.specs.Page.{sectorEnd}
 use Rattle.summary.proofs.Outcomes.{replace-page, replace-room, replace-sector, replace-size, replace-good, replace-answer, replace-stored, replace-shifted}
 use borrow.Author.Needs.{needs}
 use Rattle.summary.proofs.replacing.replace_sector.Statement.{statement}
@@ -21,9 +21,9 @@ returns c =
     let m = length (now (a .shifted)) in
     let x : Answer = WrongPageLength n in
     let w = replace-page (a .sector) (now (a .new)) n m (c .if1 .taken) in (
-      replace-answer (a .page) (a .sector) (now (a .new)) (now (a .stored)) (now (a .shifted)) (a .fits) x w,
-      replace-stored (a .page) (a .sector) (now (a .new)) (now (a .stored)) (now (a .shifted)) (a .fits) x w,
-      replace-shifted (a .page) (a .sector) (now (a .new)) (now (a .stored)) (now (a .shifted)) (a .fits) x w,
+      replace-answer (a .number) (a .sector) (now (a .new)) (now (a .stored)) (now (a .shifted)) (a .fits) x w,
+      replace-stored (a .number) (a .sector) (now (a .new)) (now (a .stored)) (now (a .shifted)) (a .fits) x w,
+      replace-shifted (a .number) (a .sector) (now (a .new)) (now (a .stored)) (now (a .shifted)) (a .fits) x w,
     )
 
 returns-2 : tie.Need-returns-2
@@ -33,9 +33,9 @@ returns-2 c =
     let m = length (now (a .shifted)) in
     let x : Answer = WrongBufferLength m in
     let w = replace-room (a .sector) (now (a .new)) n m (c .before .if1 .left) (c .if2 .taken) in (
-      replace-answer (a .page) (a .sector) (now (a .new)) (now (a .stored)) (now (a .shifted)) (a .fits) x w,
-      replace-stored (a .page) (a .sector) (now (a .new)) (now (a .stored)) (now (a .shifted)) (a .fits) x w,
-      replace-shifted (a .page) (a .sector) (now (a .new)) (now (a .stored)) (now (a .shifted)) (a .fits) x w,
+      replace-answer (a .number) (a .sector) (now (a .new)) (now (a .stored)) (now (a .shifted)) (a .fits) x w,
+      replace-stored (a .number) (a .sector) (now (a .new)) (now (a .stored)) (now (a .shifted)) (a .fits) x w,
+      replace-shifted (a .number) (a .sector) (now (a .new)) (now (a .stored)) (now (a .shifted)) (a .fits) x w,
     )
 
 returns-3 : tie.Need-returns-3
@@ -45,42 +45,24 @@ returns-3 c =
     let m = length (now (a .shifted)) in
     let x : Answer = BadReplacement (a .sector) in
     let w = replace-sector (a .sector) (now (a .new)) n m (c .before .before .if1 .left) (c .before .if2 .left) (omega arith) in (
-      replace-answer (a .page) (a .sector) (now (a .new)) (now (a .stored)) (now (a .shifted)) (a .fits) x w,
-      replace-stored (a .page) (a .sector) (now (a .new)) (now (a .stored)) (now (a .shifted)) (a .fits) x w,
-      replace-shifted (a .page) (a .sector) (now (a .new)) (now (a .stored)) (now (a .shifted)) (a .fits) x w,
+      replace-answer (a .number) (a .sector) (now (a .new)) (now (a .stored)) (now (a .shifted)) (a .fits) x w,
+      replace-stored (a .number) (a .sector) (now (a .new)) (now (a .stored)) (now (a .shifted)) (a .fits) x w,
+      replace-shifted (a .number) (a .sector) (now (a .new)) (now (a .stored)) (now (a .shifted)) (a .fits) x w,
     )
-
-mul-start : tie.Need-mul-start
-mul-start c = search needs
-
-sector-end-requires : tie.Need-sector-end-requires
-sector-end-requires c κs = search needs
-
-sub-if4 : tie.Need-sub-if4
-sub-if4 c = search needs
 
 returns-4 : tie.Need-returns-4
 returns-4 c =
     let a = c .before .before .before .before .before .before .before .before .args in
     let n = length (now (a .stored)) in
     let m = length (now (a .shifted)) in
-    let ne : length (now (a .new)) ≡ endOf (a .sector) - a .sector * 512 → ⊥ =
+    let ne : length (now (a .new)) ≡ sectorEnd (a .sector) - a .sector * 512 → ⊥ =
     λ q. c .if4 .taken (q ∙ ap (λ (e : ℕ). e - a .sector * 512) (sym (c .before .sector-end .ensures))) in
     let x : Answer = BadReplacement (a .sector) in
     let w = replace-size (a .sector) (now (a .new)) n m (c .before .before .before .before .if1 .left) (c .before .before .before .if2 .left) (omega arith) ne in (
-      replace-answer (a .page) (a .sector) (now (a .new)) (now (a .stored)) (now (a .shifted)) (a .fits) x w,
-      replace-stored (a .page) (a .sector) (now (a .new)) (now (a .stored)) (now (a .shifted)) (a .fits) x w,
-      replace-shifted (a .page) (a .sector) (now (a .new)) (now (a .stored)) (now (a .shifted)) (a .fits) x w,
+      replace-answer (a .number) (a .sector) (now (a .new)) (now (a .stored)) (now (a .shifted)) (a .fits) x w,
+      replace-stored (a .number) (a .sector) (now (a .new)) (now (a .stored)) (now (a .shifted)) (a .fits) x w,
+      replace-shifted (a .number) (a .sector) (now (a .new)) (now (a .stored)) (now (a .shifted)) (a .fits) x w,
     )
-
-put-sector-requires : tie.Need-put-sector-requires
-put-sector-requires c κs = search needs
-
-same-length : tie.Need-same-length
-same-length c = search needs
-
-same-length-2 : tie.Need-same-length-2
-same-length-2 c = search needs
 
 returns-5 : tie.Need-returns-5
 returns-5 c =
@@ -89,13 +71,13 @@ returns-5 c =
     let n = length (now (a .stored)) in
     let m = length (now (a .shifted)) in
     let s = a .sector in
-    let e : length (now (a .new)) ≡ endOf s - s * 512 = d .if4 .left ∙ ap (λ (x : ℕ). x - s * 512) (d .before .sector-end .ensures) in
+    let e : length (now (a .new)) ≡ sectorEnd s - s * 512 = d .if4 .left ∙ ap (λ (x : ℕ). x - s * 512) (d .before .sector-end .ensures) in
     let w = replace-good s (now (a .new)) n m (d .before .before .before .before .if1 .left) (d .before .before .before .if2 .left) (omega arith) e in
     let put = c .before .before .before .before .put-sector in (
       ap (λ (fs : List Fit). record { answer = Accepted; fits = fs }) (put .ensures .0)
-          ∙ replace-answer (a .page) s (now (a .new)) (now (a .stored)) (now (a .shifted)) (a .fits) Accepted w,
-      put .ensures .1 ∙ replace-stored (a .page) s (now (a .new)) (now (a .stored)) (now (a .shifted)) (a .fits) Accepted w,
-      put .ensures .2 ∙ replace-shifted (a .page) s (now (a .new)) (now (a .stored)) (now (a .shifted)) (a .fits) Accepted w,
+          ∙ replace-answer (a .number) s (now (a .new)) (now (a .stored)) (now (a .shifted)) (a .fits) Accepted w,
+      put .ensures .1 .0 ∙ replace-stored (a .number) s (now (a .new)) (now (a .stored)) (now (a .shifted)) (a .fits) Accepted w,
+      put .ensures .1 .1 ∙ replace-shifted (a .number) s (now (a .new)) (now (a .stored)) (now (a .shifted)) (a .fits) Accepted w,
     )
 
 pub replace-sector-spec : {M : Type 1} → statement M
@@ -105,11 +87,11 @@ replace-sector-spec =
     returns
     returns-2
     returns-3
-    mul-start
-    sector-end-requires
-    sub-if4
+    (λ c. search needs)
+    (λ c κs. search needs)
+    (λ c. search needs)
     returns-4
-    put-sector-requires
-    same-length
-    same-length-2
+    (λ c κs. search needs)
+    (λ c. search needs)
+    (λ c. search needs)
     returns-5)

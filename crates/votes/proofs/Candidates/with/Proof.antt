@@ -1,5 +1,5 @@
 -- The three cases of a table: full, at its ninth, with room.
-use Rattle.votes.proofs.Table.{candidate-full, candidate-counted, candidate-kept}
+use Rattle.votes.proofs.CandidateTable.{candidate-full, candidate-counted, candidate-kept}
 use borrow.Author.Needs.{needs}
 use Rattle.votes.proofs.Candidates.with.Statement.{statement}
 use Rattle.votes.proofs.Candidates.with.Tie as tie
@@ -7,20 +7,11 @@ use Rattle.votes.proofs.Candidates.with.Tie as tie
 returns : tie.Need-returns
 returns c = candidate-full _ _ (search needs)
 
-add-next : tie.Need-add-next
-add-next c = search needs
-
 returns-2 : tie.Need-returns-2
 returns-2 c = candidate-counted _ _ (search needs) (search needs)
-
-mul-c : tie.Need-mul-c
-mul-c c = search needs
-
-element-set-from-c : tie.Need-element-set-from-c
-element-set-from-c c = search needs
 
 returns-3 : tie.Need-returns-3
 returns-3 c = candidate-kept _ _ (search needs) (search needs)
 
 pub with-spec : {M : Type 1} → statement M
-with-spec = tie.close (tie.spec returns add-next returns-2 mul-c element-set-from-c returns-3)
+with-spec = tie.close (tie.spec returns (λ c. search needs) returns-2 (λ c. search needs) (λ c. search needs) returns-3)

@@ -19,42 +19,6 @@ abbrev μ-loop : tie.MeasureT-loop
 loop-holds : tie.Need-loop-holds Inv-loop μ-loop
 loop-holds c = (search needs, four-none _)
 
-mul-key : tie.Need-mul-key Inv-loop μ-loop
-mul-key c = search needs
-
-shared-slice-read-key : tie.Need-shared-slice-read-key Inv-loop μ-loop
-shared-slice-read-key c = search needs
-
-cast-key : tie.Need-cast-key Inv-loop μ-loop
-cast-key c = search needs
-
-key-requires : tie.Need-key-requires Inv-loop μ-loop
-key-requires c κs = search needs
-
-lesser-requires : tie.Need-lesser-requires Inv-loop μ-loop
-lesser-requires c κs = search needs
-
-greater-requires : tie.Need-greater-requires Inv-loop μ-loop
-greater-requires c κs = search needs
-
-lesser-requires-2 : tie.Need-lesser-requires-2 Inv-loop μ-loop
-lesser-requires-2 c κs = search needs
-
-greater-requires-2 : tie.Need-greater-requires-2 Inv-loop μ-loop
-greater-requires-2 c κs = search needs
-
-lesser-requires-3 : tie.Need-lesser-requires-3 Inv-loop μ-loop
-lesser-requires-3 c κs = search needs
-
-greater-requires-3 : tie.Need-greater-requires-3 Inv-loop μ-loop
-greater-requires-3 c κs = search needs
-
-greater-requires-4 : tie.Need-greater-requires-4 Inv-loop μ-loop
-greater-requires-4 c κs = search needs
-
-add-v : tie.Need-add-v Inv-loop μ-loop
-add-v c = search needs
-
 loop-less : tie.Need-loop-less Inv-loop μ-loop
 loop-less c = fewer 256 _ (search needs)
 
@@ -69,12 +33,6 @@ loop-again c =
       four-as _ _ (g .greater .ensures) (g2 .greater2 .ensures) (g3 .greater3 .ensures) (c .greater4 .ensures)
           (four-more _ _ _ _ _ _ _ _ _ _ (l .inv .1) (k .key .ensures) (g .before .lesser .ensures) (g2 .before .lesser2 .ensures) (g3 .before .lesser3 .ensures)),
     )
-
-sub-t17 : tie.Need-sub-t17 Inv-loop μ-loop
-sub-t17 c = search needs
-
-cast-t18 : tie.Need-cast-t18 Inv-loop μ-loop
-cast-t18 c = search needs
 
 returns : tie.Need-returns Inv-loop μ-loop
 returns c =
@@ -94,20 +52,20 @@ leaders-spec =
     Inv-loop
     μ-loop
     loop-holds
-    mul-key
-    shared-slice-read-key
-    cast-key
-    key-requires
-    lesser-requires
-    greater-requires
-    lesser-requires-2
-    greater-requires-2
-    lesser-requires-3
-    greater-requires-3
-    greater-requires-4
-    add-v
+    (λ c. search needs)
+    (λ c. search needs)
+    (λ c. search needs)
+    (λ c κs. search needs)
+    (λ c κs. search needs)
+    (λ c κs. search needs)
+    (λ c κs. search needs)
+    (λ c κs. search needs)
+    (λ c κs. search needs)
+    (λ c κs. search needs)
+    (λ c κs. search needs)
+    (λ c. search needs)
     loop-less
     loop-again
-    sub-t17
-    cast-t18
+    (λ c. search needs)
+    (λ c. search needs)
     returns)

@@ -4,8 +4,8 @@ use Prim.Native.Nat.{_+_, _-_, _≤_}
 use native.Mathlib.Omega.{arith}
 use mathlib.Core.Path.{refl}
 use Rattle.lists.specs.Bytes.{byteAt}
-use Rattle.votes.specs.Tables.{sumsOf}
-use Rattle.votes.proofs.Tallying.{Filled, filled-none, filled-more, filled-all}
+use Rattle.votes.specs.CountTables.{sumsOf}
+use Rattle.votes.proofs.Quarters.{Filled, filled-none, filled-more, filled-all}
 use Rattle.votes.proofs.counts.sums.Statement.{statement}
 use Rattle.votes.proofs.counts.sums.Tie as tie
 
@@ -18,14 +18,8 @@ abbrev μ-loop : tie.MeasureT-loop
 loop-holds : tie.Need-loop-holds Inv-loop μ-loop
 loop-holds c = (search needs, filled-none _ _ refl)
 
-mul-out : tie.Need-mul-out Inv-loop μ-loop
-mul-out c = search needs
-
 shared-slice-read-out : tie.Need-shared-slice-read-out Inv-loop μ-loop
 shared-slice-read-out c = omega (arith, c .before .before .before .pre .0 .long)
-
-mul-out-2 : tie.Need-mul-out-2 Inv-loop μ-loop
-mul-out-2 c = search needs
 
 shared-slice-read-out-2 : tie.Need-shared-slice-read-out-2 Inv-loop μ-loop
 shared-slice-read-out-2 c = omega (arith, c .before .before .before .before .pre .1 .long)
@@ -35,18 +29,6 @@ add-out c =
     let l = c .before .before .before .loop in
     let p = c .before .before .before .before .pre in
     omega (arith, p .0 .small (l .v) (search needs), p .1 .small (l .v) (search needs))
-
-mul-out-3 : tie.Need-mul-out-3 Inv-loop μ-loop
-mul-out-3 c = search needs
-
-shared-slice-read-out-3 : tie.Need-shared-slice-read-out-3 Inv-loop μ-loop
-shared-slice-read-out-3 c = search needs
-
-mul-out-4 : tie.Need-mul-out-4 Inv-loop μ-loop
-mul-out-4 c = search needs
-
-shared-slice-read-out-4 : tie.Need-shared-slice-read-out-4 Inv-loop μ-loop
-shared-slice-read-out-4 c = search needs
 
 add-out-2 : tie.Need-add-out-2 Inv-loop μ-loop
 add-out-2 c =
@@ -66,18 +48,6 @@ add-out-3 c =
       p .3 .small (l .v) (search needs),
     )
 
-mul-out-5 : tie.Need-mul-out-5 Inv-loop μ-loop
-mul-out-5 c = search needs
-
-array-write-out : tie.Need-array-write-out Inv-loop μ-loop
-array-write-out c = search needs
-
-add-v : tie.Need-add-v Inv-loop μ-loop
-add-v c = search needs
-
-loop-less : tie.Need-loop-less Inv-loop μ-loop
-loop-less c = search needs
-
 loop-again : tie.Need-loop-again Inv-loop μ-loop
 loop-again c =
     let l = c .before .before .before .before .before .loop in
@@ -94,20 +64,20 @@ sums-spec =
     Inv-loop
     μ-loop
     loop-holds
-    mul-out
+    (λ c. search needs)
     shared-slice-read-out
-    mul-out-2
+    (λ c. search needs)
     shared-slice-read-out-2
     add-out
-    mul-out-3
-    shared-slice-read-out-3
-    mul-out-4
-    shared-slice-read-out-4
+    (λ c. search needs)
+    (λ c. search needs)
+    (λ c. search needs)
+    (λ c. search needs)
     add-out-2
     add-out-3
-    mul-out-5
-    array-write-out
-    add-v
-    loop-less
+    (λ c. search needs)
+    (λ c. search needs)
+    (λ c. search needs)
+    (λ c. search needs)
     loop-again
     returns)

@@ -5,8 +5,8 @@ use native.Mathlib.Nat.{add-zero}
 use native.Mathlib.Omega.{arith}
 use mathlib.Core.Path.{_≡_, subst}
 use denote.Ref.{now}
-use Rattle.votes.specs.Tables.{Quarters}
-use Rattle.votes.proofs.Tallying.{tallied-le, tallied-more}
+use Rattle.votes.specs.CountTables.{Quarters}
+use Rattle.votes.proofs.Quarters.{tallied-le, tallied-more}
 use Rattle.votes.proofs.counts.tally_quarters.Statement.{statement}
 use Rattle.votes.proofs.counts.tally_quarters.Tie as tie
 
@@ -16,18 +16,6 @@ Inv-loop bytes a₀ b₀ c₀ d₀ i₀ a b c d i = (i ≤ 1020) × Quarters byt
 abbrev μ-loop : tie.MeasureT-loop
 μ-loop bytes a₀ b₀ c₀ d₀ i₀ a b c d i = 1020 - i
 
-loop-holds : tie.Need-loop-holds Inv-loop μ-loop
-loop-holds c = search needs
-
-shared-slice-read-wide : tie.Need-shared-slice-read-wide Inv-loop μ-loop
-shared-slice-read-wide c = search needs
-
-wide-requires : tie.Need-wide-requires Inv-loop μ-loop
-wide-requires c κs = search needs
-
-mul-a : tie.Need-mul-a Inv-loop μ-loop
-mul-a c = search needs
-
 slice-read-a : tie.Need-slice-read-a Inv-loop μ-loop
 slice-read-a c = let t = c .before .before .before .before .loop .inv .1 .first in omega (arith, t .long)
 
@@ -35,23 +23,8 @@ add-a : tie.Need-add-a Inv-loop μ-loop
 add-a c =
     let t = c .before .before .before .before .loop .inv .1 .first in omega (arith, tallied-le _ _ _ _ t (c .before .wide .result) (c .before .wide .ensures .1))
 
-mul-a-2 : tie.Need-mul-a-2 Inv-loop μ-loop
-mul-a-2 c = search needs
-
 slice-write-a : tie.Need-slice-write-a Inv-loop μ-loop
 slice-write-a c = let t = c .before .before .before .before .loop .inv .1 .first in omega (arith, t .long)
-
-add-wide : tie.Need-add-wide Inv-loop μ-loop
-add-wide c = search needs
-
-shared-slice-read-wide-2 : tie.Need-shared-slice-read-wide-2 Inv-loop μ-loop
-shared-slice-read-wide-2 c = search needs
-
-wide-requires-2 : tie.Need-wide-requires-2 Inv-loop μ-loop
-wide-requires-2 c κs = search needs
-
-mul-b : tie.Need-mul-b Inv-loop μ-loop
-mul-b c = search needs
 
 slice-read-b : tie.Need-slice-read-b Inv-loop μ-loop
 slice-read-b c = let t = c .before .before .before .before .before .before .before .loop .inv .1 .second in omega (arith, t .long)
@@ -60,23 +33,8 @@ add-b : tie.Need-add-b Inv-loop μ-loop
 add-b c =
     let t = c .before .before .before .before .before .before .before .loop .inv .1 .second in omega (arith, tallied-le _ _ _ _ t (c .before .wide2 .result) (c .before .wide2 .ensures .1))
 
-mul-b-2 : tie.Need-mul-b-2 Inv-loop μ-loop
-mul-b-2 c = search needs
-
 slice-write-b : tie.Need-slice-write-b Inv-loop μ-loop
 slice-write-b c = let t = c .before .before .before .before .before .before .before .loop .inv .1 .second in omega (arith, t .long)
-
-add-wide-2 : tie.Need-add-wide-2 Inv-loop μ-loop
-add-wide-2 c = search needs
-
-shared-slice-read-wide-3 : tie.Need-shared-slice-read-wide-3 Inv-loop μ-loop
-shared-slice-read-wide-3 c = search needs
-
-wide-requires-3 : tie.Need-wide-requires-3 Inv-loop μ-loop
-wide-requires-3 c κs = search needs
-
-mul-c : tie.Need-mul-c Inv-loop μ-loop
-mul-c c = search needs
 
 slice-read-c : tie.Need-slice-read-c Inv-loop μ-loop
 slice-read-c c = let t = c .before .before .before .before .before .before .before .before .before .before .loop .inv .1 .third in omega (arith, t .long)
@@ -85,23 +43,8 @@ add-c : tie.Need-add-c Inv-loop μ-loop
 add-c c =
     let t = c .before .before .before .before .before .before .before .before .before .before .loop .inv .1 .third in omega (arith, tallied-le _ _ _ _ t (c .before .wide3 .result) (c .before .wide3 .ensures .1))
 
-mul-c-2 : tie.Need-mul-c-2 Inv-loop μ-loop
-mul-c-2 c = search needs
-
 slice-write-c : tie.Need-slice-write-c Inv-loop μ-loop
 slice-write-c c = let t = c .before .before .before .before .before .before .before .before .before .before .loop .inv .1 .third in omega (arith, t .long)
-
-add-wide-3 : tie.Need-add-wide-3 Inv-loop μ-loop
-add-wide-3 c = search needs
-
-shared-slice-read-wide-4 : tie.Need-shared-slice-read-wide-4 Inv-loop μ-loop
-shared-slice-read-wide-4 c = search needs
-
-wide-requires-4 : tie.Need-wide-requires-4 Inv-loop μ-loop
-wide-requires-4 c κs = search needs
-
-mul-d : tie.Need-mul-d Inv-loop μ-loop
-mul-d c = search needs
 
 slice-read-d : tie.Need-slice-read-d Inv-loop μ-loop
 slice-read-d c =
@@ -111,18 +54,9 @@ add-d : tie.Need-add-d Inv-loop μ-loop
 add-d c =
     let t = c .before .before .before .before .before .before .before .before .before .before .before .before .before .loop .inv .1 .fourth in omega (arith, tallied-le _ _ _ _ t (c .before .wide4 .result) (c .before .wide4 .ensures .1))
 
-mul-d-2 : tie.Need-mul-d-2 Inv-loop μ-loop
-mul-d-2 c = search needs
-
 slice-write-d : tie.Need-slice-write-d Inv-loop μ-loop
 slice-write-d c =
     let t = c .before .before .before .before .before .before .before .before .before .before .before .before .before .loop .inv .1 .fourth in omega (arith, t .long)
-
-add-i : tie.Need-add-i Inv-loop μ-loop
-add-i c = search needs
-
-loop-less : tie.Need-loop-less Inv-loop μ-loop
-loop-less c = search needs
 
 loop-again : tie.Need-loop-again Inv-loop μ-loop
 loop-again c =
@@ -143,18 +77,6 @@ loop-again c =
       },
     )
 
-same-length : tie.Need-same-length Inv-loop μ-loop
-same-length c = search needs
-
-same-length-2 : tie.Need-same-length-2 Inv-loop μ-loop
-same-length-2 c = search needs
-
-same-length-3 : tie.Need-same-length-3 Inv-loop μ-loop
-same-length-3 c = search needs
-
-same-length-4 : tie.Need-same-length-4 Inv-loop μ-loop
-same-length-4 c = search needs
-
 returns : tie.Need-returns Inv-loop μ-loop
 returns c =
     let l = c .before .loop in
@@ -167,43 +89,43 @@ tally-quarters-spec =
     (tie.spec
     Inv-loop
     μ-loop
-    loop-holds
-    shared-slice-read-wide
-    wide-requires
-    mul-a
+    (λ c. search needs)
+    (λ c. search needs)
+    (λ c κs. search needs)
+    (λ c. search needs)
     slice-read-a
     add-a
-    mul-a-2
+    (λ c. search needs)
     slice-write-a
-    add-wide
-    shared-slice-read-wide-2
-    wide-requires-2
-    mul-b
+    (λ c. search needs)
+    (λ c. search needs)
+    (λ c κs. search needs)
+    (λ c. search needs)
     slice-read-b
     add-b
-    mul-b-2
+    (λ c. search needs)
     slice-write-b
-    add-wide-2
-    shared-slice-read-wide-3
-    wide-requires-3
-    mul-c
+    (λ c. search needs)
+    (λ c. search needs)
+    (λ c κs. search needs)
+    (λ c. search needs)
     slice-read-c
     add-c
-    mul-c-2
+    (λ c. search needs)
     slice-write-c
-    add-wide-3
-    shared-slice-read-wide-4
-    wide-requires-4
-    mul-d
+    (λ c. search needs)
+    (λ c. search needs)
+    (λ c κs. search needs)
+    (λ c. search needs)
     slice-read-d
     add-d
-    mul-d-2
+    (λ c. search needs)
     slice-write-d
-    add-i
-    loop-less
+    (λ c. search needs)
+    (λ c. search needs)
     loop-again
-    same-length
-    same-length-2
-    same-length-3
-    same-length-4
+    (λ c. search needs)
+    (λ c. search needs)
+    (λ c. search needs)
+    (λ c. search needs)
     returns)

@@ -1,36 +1,12 @@
 -- The sums of the quarters' counts are the counts of the page.
 use mathlib.Core.Path.{_∙_}
-use Rattle.votes.proofs.Tallying.{quarters-none, tallied-most, sums-count}
+use Rattle.votes.proofs.Quarters.{quarters-none, tallied-most, sums-count}
 use borrow.Author.Needs.{needs}
 use Rattle.votes.proofs.counts.value_counts.Statement.{statement}
 use Rattle.votes.proofs.counts.value_counts.Tie as tie
 
-slice-aggregate-tally-quarters : tie.Need-slice-aggregate-tally-quarters
-slice-aggregate-tally-quarters c = search needs
-
-slice-aggregate-tally-quarters-2 : tie.Need-slice-aggregate-tally-quarters-2
-slice-aggregate-tally-quarters-2 c = search needs
-
-slice-aggregate-tally-quarters-3 : tie.Need-slice-aggregate-tally-quarters-3
-slice-aggregate-tally-quarters-3 c = search needs
-
-slice-aggregate-tally-quarters-4 : tie.Need-slice-aggregate-tally-quarters-4
-slice-aggregate-tally-quarters-4 c = search needs
-
 tally-quarters-requires : tie.Need-tally-quarters-requires
 tally-quarters-requires c κs = (search needs, quarters-none _)
-
-slice-aggregate-sums : tie.Need-slice-aggregate-sums
-slice-aggregate-sums c = search needs
-
-slice-aggregate-sums-2 : tie.Need-slice-aggregate-sums-2
-slice-aggregate-sums-2 c = search needs
-
-slice-aggregate-sums-3 : tie.Need-slice-aggregate-sums-3
-slice-aggregate-sums-3 c = search needs
-
-slice-aggregate-sums-4 : tie.Need-slice-aggregate-sums-4
-slice-aggregate-sums-4 c = search needs
 
 sums-requires : tie.Need-sums-requires
 sums-requires c κs =
@@ -46,14 +22,14 @@ pub value-counts-spec : {M : Type 1} → statement M
 value-counts-spec =
     tie.close
     (tie.spec
-    slice-aggregate-tally-quarters
-    slice-aggregate-tally-quarters-2
-    slice-aggregate-tally-quarters-3
-    slice-aggregate-tally-quarters-4
+    (λ c. search needs)
+    (λ c. search needs)
+    (λ c. search needs)
+    (λ c. search needs)
     tally-quarters-requires
-    slice-aggregate-sums
-    slice-aggregate-sums-2
-    slice-aggregate-sums-3
-    slice-aggregate-sums-4
+    (λ c. search needs)
+    (λ c. search needs)
+    (λ c. search needs)
+    (λ c. search needs)
     sums-requires
     returns)

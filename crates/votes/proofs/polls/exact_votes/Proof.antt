@@ -5,7 +5,7 @@ use native.Mathlib.Omega.{arith}
 use mathlib.Core.Path.{_∙_}
 use mathlib.Core.Logic.{⊎-elim}
 use denote.Ref.{now}
-use Rattle.votes.proofs.Balloting.{Polls, exact-here, polls-none, polls-le, polls-few, polls-no, polls-yes, polls-as, polls-all}
+use Rattle.votes.proofs.Ballots.{Polls, exact-here, polls-none, polls-le, polls-few, polls-no, polls-yes, polls-as, polls-all}
 use Rattle.votes.proofs.polls.exact_votes.Statement.{statement}
 use Rattle.votes.proofs.polls.exact_votes.Tie as tie
 
@@ -18,55 +18,13 @@ abbrev μ-loop : tie.MeasureT-loop
 loop-holds : tie.Need-loop-holds Inv-loop μ-loop
 loop-holds c = (search needs, polls-none _)
 
-mul-start : tie.Need-mul-start Inv-loop μ-loop
-mul-start c = search needs
-
-sector-end-requires : tie.Need-sector-end-requires Inv-loop μ-loop
-sector-end-requires c κs = search needs
-
-sub-all-same : tie.Need-sub-all-same Inv-loop μ-loop
-sub-all-same c = search needs
-
-part-all-same-start : tie.Need-part-all-same-start Inv-loop μ-loop
-part-all-same-start c = search needs
-
-part-all-same-end : tie.Need-part-all-same-end Inv-loop μ-loop
-part-all-same-end c = search needs
-
-all-same-requires : tie.Need-all-same-requires Inv-loop μ-loop
-all-same-requires c κs = search needs
-
-shared-slice-read-wide : tie.Need-shared-slice-read-wide Inv-loop μ-loop
-shared-slice-read-wide c = search needs
-
-wide-requires : tie.Need-wide-requires Inv-loop μ-loop
-wide-requires c κs = search needs
-
-mul-votes : tie.Need-mul-votes Inv-loop μ-loop
-mul-votes c = search needs
-
-array-read-votes : tie.Need-array-read-votes Inv-loop μ-loop
-array-read-votes c = search needs
-
 add-votes : tie.Need-add-votes Inv-loop μ-loop
 add-votes c =
     let p = c .before .before .before .before .before .before .before .loop .inv .1 in
     omega (arith, polls-le _ _ _ _ p (c .wide .result) (c .wide .ensures .1))
 
-mul-votes-2 : tie.Need-mul-votes-2 Inv-loop μ-loop
-mul-votes-2 c = search needs
-
-array-write-votes : tie.Need-array-write-votes Inv-loop μ-loop
-array-write-votes c = search needs
-
 add-total : tie.Need-add-total Inv-loop μ-loop
 add-total c = let p = c .before .before .before .before .before .before .before .loop .inv .1 in omega (arith, polls-few _ _ _ _ p)
-
-add-s : tie.Need-add-s Inv-loop μ-loop
-add-s c = search needs
-
-loop-less : tie.Need-loop-less Inv-loop μ-loop
-loop-less c = search needs
 
 loop-again : tie.Need-loop-again Inv-loop μ-loop
 loop-again c =
@@ -90,21 +48,21 @@ exact-votes-spec =
     Inv-loop
     μ-loop
     loop-holds
-    mul-start
-    sector-end-requires
-    sub-all-same
-    part-all-same-start
-    part-all-same-end
-    all-same-requires
-    shared-slice-read-wide
-    wide-requires
-    mul-votes
-    array-read-votes
+    (λ c. search needs)
+    (λ c κs. search needs)
+    (λ c. search needs)
+    (λ c. search needs)
+    (λ c. search needs)
+    (λ c κs. search needs)
+    (λ c. search needs)
+    (λ c κs. search needs)
+    (λ c. search needs)
+    (λ c. search needs)
     add-votes
-    mul-votes-2
-    array-write-votes
+    (λ c. search needs)
+    (λ c. search needs)
     add-total
-    add-s
-    loop-less
+    (λ c. search needs)
+    (λ c. search needs)
     loop-again
     returns)

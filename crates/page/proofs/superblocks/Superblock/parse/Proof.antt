@@ -5,17 +5,11 @@ use borrow.Author.Needs.{needs}
 use Rattle.page.proofs.superblocks.Superblock.parse.Statement.{statement}
 use Rattle.page.proofs.superblocks.Superblock.parse.Tie as tie
 
-refused-requires : tie.Need-refused-requires
-refused-requires c κs = search needs
-
 returns : tie.Need-returns
 returns c = c .refused .ensures ∙ sym (parsed-length _ (search needs))
-
-read-requires : tie.Need-read-requires
-read-requires c κs = search needs
 
 returns-2 : tie.Need-returns-2
 returns-2 c = rw (c .read .ensures) (sym (parsed-read _ (search needs)))
 
 pub parse-spec : {M : Type 1} → statement M
-parse-spec = tie.close (tie.spec refused-requires returns read-requires returns-2)
+parse-spec = tie.close (tie.spec (λ c κs. search needs) returns (λ c κs. search needs) returns-2)

@@ -5,25 +5,13 @@ use borrow.Author.Needs.{needs}
 use Rattle.page.proofs.superblocks.Superblock.parse_checked.Statement.{statement}
 use Rattle.page.proofs.superblocks.Superblock.parse_checked.Tie as tie
 
-refused-requires : tie.Need-refused-requires
-refused-requires c κs = search needs
-
 returns : tie.Need-returns
 returns c = c .refused .ensures ∙ sym (checked-length _ (search needs))
-
-quad-requires : tie.Need-quad-requires
-quad-requires c κs = search needs
-
-refused-requires-2 : tie.Need-refused-requires-2
-refused-requires-2 c κs = search needs
 
 returns-2 : tie.Need-returns-2
 returns-2 c =
     let m = c .before .before .quad .ensures in
     c .refused2 .ensures ∙ rw m (sym (checked-magic _ (search needs) (λ e. c .before .if2 .taken (m ∙ e))))
-
-read-requires : tie.Need-read-requires
-read-requires c κs = search needs
 
 returns-3 : tie.Need-returns-3
 returns-3 c =
@@ -34,10 +22,10 @@ pub parse-checked-spec : {M : Type 1} → statement M
 parse-checked-spec =
     tie.close
     (tie.spec
-    refused-requires
+    (λ c κs. search needs)
     returns
-    quad-requires
-    refused-requires-2
+    (λ c κs. search needs)
+    (λ c κs. search needs)
     returns-2
-    read-requires
+    (λ c κs. search needs)
     returns-3)

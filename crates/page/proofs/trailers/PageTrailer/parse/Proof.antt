@@ -5,17 +5,11 @@ use borrow.Author.Needs.{needs}
 use Rattle.page.proofs.trailers.PageTrailer.parse.Statement.{statement}
 use Rattle.page.proofs.trailers.PageTrailer.parse.Tie as tie
 
-blank-requires : tie.Need-blank-requires
-blank-requires c κs = search needs
-
 returns : tie.Need-returns
 returns c = rw (c .blank .ensures) (sym (trailer-length _ (search needs)))
-
-record-requires : tie.Need-record-requires
-record-requires c κs = search needs
 
 returns-2 : tie.Need-returns-2
 returns-2 c = rw (c .record .ensures) (sym (trailer-read _ (search needs)))
 
 pub parse-spec : {M : Type 1} → statement M
-parse-spec = tie.close (tie.spec blank-requires returns record-requires returns-2)
+parse-spec = tie.close (tie.spec (λ c κs. search needs) returns (λ c κs. search needs) returns-2)

@@ -5,9 +5,6 @@ use borrow.Author.Needs.{needs}
 use Rattle.page.proofs.types.PageType.from_byte.Statement.{statement}
 use Rattle.page.proofs.types.PageType.from_byte.Tie as tie
 
-upper-requires : tie.Need-upper-requires
-upper-requires c κs = search needs
-
 returns : tie.Need-returns
 unfolding letterOf
 returns c = rw (← c .before .upper .ensures, c .match .keys1)
@@ -55,7 +52,7 @@ pub from-byte-spec : {M : Type 1} → statement M
 from-byte-spec =
     tie.close
     (tie.spec
-    upper-requires
+    (λ c κs. search needs)
     returns
     returns-2
     returns-3

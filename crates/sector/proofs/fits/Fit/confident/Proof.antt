@@ -4,18 +4,6 @@ use borrow.Author.Tests.{le-leb, lt-leb}
 use Rattle.sector.proofs.fits.Fit.confident.Statement.{statement}
 use Rattle.sector.proofs.fits.Fit.confident.Tie as tie
 
-returns : tie.Need-returns
-returns c = search needs
-
-cast-peak : tie.Need-cast-peak
-cast-peak c = search needs
-
-cast-runner-up : tie.Need-cast-runner-up
-cast-runner-up c = search needs
-
-add-result : tie.Need-add-result
-add-result c = search needs
-
 returns-2 : tie.Need-returns-2
 returns-2 c = simp (c .before .before .before .if1 .left, le-leb _ _ (c .if2 .taken))
 
@@ -24,4 +12,4 @@ returns-3 c = simp (c .before .before .before .if1 .left, lt-leb _ _ (c .if2 .le
 
 pub confident-spec : {M : Type 1} → statement M
 confident-spec =
-    tie.close (tie.spec returns cast-peak cast-runner-up add-result returns-2 returns-3)
+    tie.close (tie.spec (λ c. search needs) (λ c. search needs) (λ c. search needs) (λ c. search needs) returns-2 returns-3)

@@ -1,3 +1,0 @@
--- What the functions find, and what becomes of the buffers that a caller lends.
-pub mod Buffers
-pub mod Calls

@@ -1,0 +1,3 @@
+-- Laws of digits.
+pub mod Values
+pub mod Spelling

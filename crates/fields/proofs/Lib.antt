@@ -1,0 +1,4 @@
+-- Laws of layouts as lists of fields.
+pub mod Sizes
+pub mod Puts
+pub mod Tables

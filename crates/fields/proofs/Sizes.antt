@@ -1,0 +1,30 @@
+-- A layout has as many bytes as its fields' widths say. Assumes nothing.
+use Prim.Native.Nat.{ℕ, zero, suc, _+_, _*_}
+use mathlib.Core.Path.{_≡_, refl, ap₂, _∙_}
+use mathlib.Core.List.{List, [], _∷_, _++_}
+use native.Mathlib.Omega.{arith}
+use lib.ListN.{length, length-append}
+use Rattle.lists.specs.Pieces.{joined}
+use Rattle.numbers.proofs.Widths.{little-long, big-long}
+use Rattle.fields.specs.Fields.{Field, little, big, widthOf, bytesOf, sizeOf, layoutBytes}
+
+pub field-long : (f : Field) → length (bytesOf f) ≡ widthOf f
+unfolding bytesOf widthOf
+field-long (little k n) = little-long k n
+field-long (big k n) = big-long k n
+
+pub fields-long : (fs : List Field) → length (layoutBytes fs) ≡ sizeOf fs
+unfolding layoutBytes sizeOf
+fields-long [] = refl
+fields-long (f ∷ fs) = length-append (bytesOf f) (layoutBytes fs) ∙ ap₂ (λ (a b : ℕ). a + b) (field-long f) (fields-long fs)
+
+pub size-append : (fs gs : List Field) → sizeOf (fs ++ gs) ≡ sizeOf fs + sizeOf gs
+unfolding sizeOf
+size-append [] gs = omega arith
+size-append (f ∷ fs) gs = omega (arith, size-append fs gs)
+
+-- a table of n entries of w bytes each
+pub table-size : (f : ℕ → List Field) (w n : ℕ) → ((k : ℕ) → sizeOf (f k) ≡ w) → sizeOf (joined f n) ≡ n * w
+unfolding joined sizeOf
+table-size f w zero h = omega arith
+table-size f w (suc n) h = size-append (joined f n) (f n) ∙ omega (arith, table-size f w n h, h n)

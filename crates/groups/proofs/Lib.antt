@@ -1,0 +1,4 @@
+-- Laws of groups of candidates: their members, the table that holds them, the order within.
+pub mod Membership
+pub mod GroupTable
+pub mod Order

@@ -1,0 +1,2 @@
+-- Groups of candidates.
+pub mod Groups

@@ -1,0 +1,2 @@
+-- Laws of what the functions tell.
+pub mod Calls

@@ -1,0 +1,2 @@
+-- Laws of the parts.
+pub mod Sizes

@@ -1,0 +1,3 @@
+-- Laws of reports and replies.
+pub mod Reports
+pub mod Replies

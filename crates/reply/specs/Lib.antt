@@ -1,0 +1,3 @@
+-- What the contracts of `reply` cite: the report on a page, and the reply to a line.
+pub mod Report
+pub mod Reply

@@ -1,0 +1,4 @@
+// `report` on an empty input: it writes nothing.
+fn main() {
+    reporter::run();
+}

@@ -1,0 +1,2 @@
+-- What the contracts of `reporter` cite.
+pub mod Turns

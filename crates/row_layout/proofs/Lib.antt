@@ -1,0 +1,3 @@
+-- Laws of the layouts for slots and rows.
+pub mod Sizes
+pub mod Slots

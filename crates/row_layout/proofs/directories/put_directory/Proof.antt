@@ -1,0 +1,41 @@
+-- `put_directory` meets its contract: its puts are its fields.
+use borrow.Author.Needs.{needs}
+use Rattle.fields.specs.Fields.{bytesOf}
+use Rattle.fields.proofs.Puts.{put-none, put-field, put-known}
+use Rattle.row_layout.specs.RowLayouts.{directoryFields}
+use Rattle.row_layout.proofs.directories.put_directory.Statement.{statement}
+use Rattle.row_layout.proofs.directories.put_directory.Tie as tie
+
+-- the puts, from the last back
+returns : tie.Need-returns
+unfolding directoryFields bytesOf
+returns c =
+    let count = c .before .before in
+    let declared = count .before .before .before .before in
+    let slots = declared .before .before .before .before in
+    let end = slots .before .before .before .before in
+    let start = end .before .before .before .before in
+    let found = start .before .before .before .before in
+    let count-known = found .before .before in
+    let flag-known = count-known .before in
+    put-field (found .put-bool .ensures) (
+    put-field (start .put-size16 .ensures) (
+    put-field (end .put-size162 .ensures) (
+    put-field (slots .put-size163 .ensures) (
+    put-known (flag-known .declared-flag .ensures) (declared .put-u8 .ensures) (
+    put-known (count-known .declared-count .ensures) (count .put-size164 .ensures) put-none)))))
+
+pub put-directory-spec : {M : Type 1} → statement M
+put-directory-spec =
+    tie.close
+    (tie.spec
+    (λ c κs. search needs)
+    (λ c κs. search needs)
+    (λ c κs. search needs)
+    (λ c κs. search needs)
+    (λ c κs. search needs)
+    (λ c κs. search needs)
+    (λ c κs. search needs)
+    (λ c κs. search needs)
+    (λ c. search needs)
+    returns)

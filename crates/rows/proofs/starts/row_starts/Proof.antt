@@ -1,0 +1,29 @@
+-- `row_starts` meets its contract: the rows of what the parse lists.
+use mathlib.Core.Path.{ap, _∙_}
+use Rattle.answers.specs.Settings.{directory}
+use Rattle.slots.specs.Slots.{searchLimit}
+use Rattle.slotted.specs.Decisions.{decisionOf}
+use Rattle.slotted.proofs.Decisions.{sound-decided}
+use Rattle.rows.proofs.RowStarts.{starts-decided}
+use borrow.Author.Needs.{needs}
+use Rattle.rows.proofs.starts.row_starts.Statement.{statement}
+use Rattle.rows.proofs.starts.row_starts.Tie as tie
+
+starts-at-requires : tie.Need-starts-at-requires
+starts-at-requires c κs =
+    let d = c .before .before .before in
+    sound-decided searchLimit _ _ (d .decide .result) _ _ (d .decide .ensures) (c .before .start .ensures) (c .count .ensures)
+
+returns : tie.Need-returns
+returns c =
+    let n = c .before in
+    let s = n .before in
+    let v = s .before in
+    let d = v .before in
+    let a = d .before .before .before .args in
+    let e = d .decide .ensures ∙ ap (decisionOf searchLimit (a .plain .now)) (d .before .directory .ensures) in
+    c .starts-at .ensures
+    ∙ starts-decided searchLimit (a .number) (a .plain .now) (directory (a .options)) (d .decide .result) (s .start .result) (n .count .result) (v .answer .result) e (s .start .ensures) (n .count .ensures) (v .answer .ensures)
+
+pub row-starts-spec : {M : Type 1} → statement M
+row-starts-spec = tie.close (tie.spec (λ c κs. search needs) (λ c κs. search needs) (λ c κs. search needs) (λ c κs. search needs) (λ c κs. search needs) starts-at-requires returns)

@@ -1,0 +1,76 @@
+-- Laws of the parse's tables, and of its answer as a whole. Assumes nothing.
+use Prim.Native.Nat.{ℕ, suc, _+_, _-_, _*_, _≤_, _<_, min}
+use mathlib.Core.Path.{_≡_, refl, sym, ap, _∙_}
+use mathlib.Core.List.{List, [], _∷_, _++_, append-assoc}
+use mathlib.Core.Bool.{Bool}
+use native.Mathlib.Omega.{arith}
+use lib.ListN.{length, set, replicate, length-append}
+use lib.Seq.{set-at}
+use borrow.Author.Tests.{eq-eqb, ne-eqb}
+use Rattle.lists.specs.Bytes.{pairAt}
+use Rattle.lists.specs.Pieces.{each}
+use Rattle.lists.proofs.Each.{each-more, each-length}
+use Rattle.answers.specs.Warns.{warningNumber, withParseWarning}
+use Rattle.answers.specs.declared.kinds.Answer.{Answer}
+use Rattle.answers.specs.declared.notices.WarningKind.{WarningKind}
+use Rattle.answers.specs.declared.notices.ParseWarnings.{ParseWarnings}
+use Rattle.slotted.specs.Directory.{slotsOf}
+use Rattle.slotted.specs.Decisions.{answerOf, startIn, countIn, decisionOf}
+use Rattle.slotted.specs.Parses.{tableOf, declaredIn, directoryOf, isListed, warned, warningsOf, parsedBy, parsedOf}
+use Rattle.slotted.specs.declared.verdicts.Listed.{Listed}
+use Rattle.slotted.specs.declared.verdicts.Decided.{Decided}
+use Rattle.slotted.specs.declared.directories.Declared.{Declared}
+use Rattle.slotted.specs.declared.directories.SlotDirectory.{SlotDirectory}
+use Rattle.slotted.specs.declared.directories.Parsed.{Parsed}
+
+-- the table, slot by slot
+pub table-none : (plain : List ℕ) (start : ℕ) (t : List ℕ) → t ≡ tableOf [] → t ≡ tableOf (slotsOf plain start 0)
+unfolding each
+table-none plain start t e = e
+
+pub table-put : (l t : List ℕ) (k v : ℕ) → length l ≡ k → k < 384 → t ≡ tableOf l → set t k v ≡ tableOf (l ++ (v ∷ []))
+table-put l t k v n h q =
+    let m : 384 - length l ≡ suc (384 - (k + 1)) = omega arith in
+    let n′ : 384 - (k + 1) ≡ 384 - length (l ++ (v ∷ [])) = omega (arith, length-append l (v ∷ [])) in
+    let room : List ℕ = replicate (384 - (k + 1)) 0 in
+    let a : t ≡ l ++ (0 ∷ room) = q ∙ ap (λ (x : ℕ). l ++ replicate x 0) m in
+    ap (λ (x : List ℕ). set x k v) a ∙ set-at l 0 room v k n ∙ sym (append-assoc l (v ∷ []) room)
+    ∙ ap (λ (x : ℕ). (l ++ (v ∷ [])) ++ replicate x 0) n′
+
+pub table-more : (plain : List ℕ) (start k v : ℕ) (t : List ℕ) → k < 384 → v ≡ pairAt plain (start + 2 * k) → t ≡ tableOf (slotsOf plain start k) → set t k v ≡ tableOf (slotsOf plain start (k + 1))
+table-more plain start k v t h e q =
+    let f : ℕ → ℕ = λ j. pairAt plain (start + 2 * j) in
+    table-put (slotsOf plain start k) t k v (each-length f k) h q ∙ ap (λ (x : ℕ). tableOf (slotsOf plain start k ++ (x ∷ []))) e ∙ ap tableOf (sym (each-more f k))
+
+pub table-all : (plain : List ℕ) (start k room : ℕ) (t : List ℕ) → k ≤ room → room ≤ k → t ≡ tableOf (slotsOf plain start k) → t ≡ tableOf (slotsOf plain start room)
+table-all plain start k room t h l q = let z : k ≡ room = omega arith in q ∙ ap (λ (x : ℕ). tableOf (slotsOf plain start x)) z
+
+-- the directory of what is listed
+pub tabled-is : (plain : List ℕ) (l : Listed) (start count : ℕ) (how : Declared) (t : List ℕ) → start ≡ startIn l → count ≡ countIn l → how ≡ declaredIn l
+    → t ≡ tableOf (slotsOf plain start (min count 384))
+    → record { «array_start» = start; end = start + 2 * count; slots = t; len = count; declared = how } ≡ directoryOf plain l
+tabled-is plain l start count how t e f g h = rw (h, g, f, e) refl
+
+-- one warning more or none
+module _ (t : ParseWarnings) (number : ℕ) (kind : WarningKind) where
+  pub warned-none : warningNumber kind ≡ 0 → t ≡ warned t number kind
+  unfolding warned
+  warned-none z = rw (eq-eqb (warningNumber kind) 0 z) refl
+
+  pub warned-one : (warningNumber kind ≡ 0 → ⊥) → withParseWarning t number kind ≡ warned t number kind
+  unfolding warned
+  warned-one z = rw (ne-eqb (warningNumber kind) 0 z) refl
+
+-- the answer, part by part
+module _ (lim number : ℕ) (plain : List ℕ) (lenient : Bool) (d : Decided) (e : d ≡ decisionOf lim plain lenient) where
+  pub answer-is : (a : Answer) → a ≡ answerOf number (d .verdict) → a ≡ parsedOf lim number plain lenient .answer
+  unfolding parsedOf
+  answer-is a ea = ea ∙ ap (λ (x : Decided). answerOf number (x .verdict)) e
+
+  pub parsed-is : (a : Answer) (f : Bool) (s : SlotDirectory) (w : ParseWarnings) → a ≡ answerOf number (d .verdict) → f ≡ isListed (d .listed) → s ≡ directoryOf plain (d .listed)
+      → w ≡ warningsOf number d
+      → record { answer = a; found = f; directory = s; warnings = w } ≡ parsedOf lim number plain lenient
+  unfolding parsedOf
+  parsed-is a f s w ea ef es ew =
+      let whole : _≡_ {A = Parsed} (record { answer = a; found = f; directory = s; warnings = w }) (parsedBy number plain d) = λ i. record { answer = ea i; found = ef i; directory = es i; warnings = ew i } in
+      whole ∙ ap (parsedBy number plain) e

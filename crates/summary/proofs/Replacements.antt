@@ -1,0 +1,187 @@
+-- DEMAND 3, on replacement: the kept summary is that of the final page, and on any summary one sector alone changes. Assumes nothing.
+use Prim.Native.Nat.{ℕ, _-_, _*_, _<_}
+use mathlib.Core.Path.{_≡_, refl, sym, ap, _∙_, subst}
+use mathlib.Core.Bool.{false}
+use mathlib.Core.List.{List, [], _∷_}
+use mathlib.Core.Logic.{_⊎_, inl, inr, ⊎-elim}
+use native.Mathlib.Decide.{ℕ-discrete, decLt}
+use native.Mathlib.Omega.{arith}
+use lib.ListN.{length, set, length-set}
+use lib.Seq.{getD-set-same, getD-set-other}
+use Rattle.lists.specs.Pieces.{over}
+use Rattle.lists.proofs.Each.{each-set}
+use Rattle.answers.specs.Answers.{isAccepted}
+use Rattle.answers.specs.declared.kinds.Answer.{Answer}
+use Rattle.answers.specs.declared.kinds.Answer.the-variants.{Accepted, WrongPageLength, WrongBufferLength, BadReplacement}
+use Rattle.sector.specs.Byte.{offsetOf}
+use Rattle.sector.specs.Fit.{fitOf, sectorOf}
+use Rattle.sector.specs.Scan.{blankFit}
+use Rattle.sector.specs.declared.fits.Fit.{Fit}
+use Rattle.sector.proofs.Shifts.{sector-length}
+use Rattle.summary.specs.Page.{sectorEnd, fitAt, bytesAt, fitsOf, bytesOf, checked, pageScanOf, scanned}
+use Rattle.summary.specs.Replace.{replaceAnswer, replaced, storedAfter, shiftedAfter}
+use Rattle.summary.specs.State.{State, Replacement, atScan, after, afterAll, Fresh, Taken, OneSector}
+use Rattle.summary.specs.declared.pages.PageScan.{PageScan}
+use Rattle.summary.proofs.Parts.{joined-over, whole-length, part-here, part-other, trailer-kept}
+use Rattle.summary.proofs.Sectors.{bytes-length, bytes-sized}
+use Rattle.summary.proofs.Outcomes.{scan-good, replace-page, replace-room, replace-sector, replace-size, replace-good, scan-answer, scan-buffer, replace-answer, replace-stored, replace-shifted}
+
+-- what a replacement that is accepted makes of a state
+abbrev put : ℕ → State → Replacement → State
+put number t r =
+    record {
+      stored = over (t .stored) (r .sector * 512) (r .new);
+      shifted = over (t .shifted) (r .sector * 512) (sectorOf (offsetOf number (r .sector)) (r .new));
+      fits = set (t .fits) (r .sector) (fitOf (offsetOf number (r .sector)) (r .new));
+    }
+
+module _ (number : ℕ) (t : State) (r : Replacement) where
+  abbrev answerTo : Answer
+  answerTo = replaceAnswer (r .sector) (r .new) (length (t .stored)) (length (t .shifted))
+
+  -- the state afterwards, by the answer
+  pub taken-after : Taken t r → after number t r ≡ put number t r
+  unfolding after
+  taken-after k =
+      let w : Accepted ≡ answerTo = replace-good (r .sector) (r .new) _ _ (k .whole) (k .buffer) (k .within) (k .sized) in
+      sym
+      (λ i. record {
+        stored = replace-stored number (r .sector) (r .new) (t .stored) (t .shifted) (t .fits) Accepted w i;
+        shifted = replace-shifted number (r .sector) (r .new) (t .stored) (t .shifted) (t .fits) Accepted w i;
+        fits = replace-answer number (r .sector) (r .new) (t .stored) (t .shifted) (t .fits) Accepted w i .fits;
+      })
+
+  refused : (a : Answer) → isAccepted a ≡ false → a ≡ answerTo → after number t r ≡ t
+  unfolding after storedAfter shiftedAfter replaced
+  refused a e w = let q : isAccepted answerTo ≡ false = ap isAccepted (sym w) ∙ e in rw q
+
+  pub refused-after : isAccepted answerTo ≡ false → after number t r ≡ t
+  refused-after e = refused answerTo e refl
+
+  -- a replacement is taken, or changes nothing
+  pub taken-or-same : Taken t r ⊎ (after number t r ≡ t)
+  taken-or-same = whole (ℕ-discrete (length (t .stored)) 4096)
+    where
+      s : ℕ
+      s = r .sector
+
+      size : length (t .stored) ≡ 4096 → length (t .shifted) ≡ 4080 → s < 8 → Dec (length (r .new) ≡ sectorEnd s - s * 512) → Taken t r ⊎ (after number t r ≡ t)
+      size a b h (yes e) = inl (record { whole = a; buffer = b; within = h; sized = e })
+      size a b h (no ne) = inr (refused (BadReplacement s) refl (replace-size s (r .new) _ _ a b h ne))
+
+      within : length (t .stored) ≡ 4096 → length (t .shifted) ≡ 4080 → Dec (s < 8) → Taken t r ⊎ (after number t r ≡ t)
+      within a b (yes h) = size a b h (ℕ-discrete (length (r .new)) (sectorEnd s - s * 512))
+      within a b (no h) = inr (refused (BadReplacement s) refl (replace-sector s (r .new) _ _ a b (omega arith)))
+
+      buffer : length (t .stored) ≡ 4096 → Dec (length (t .shifted) ≡ 4080) → Taken t r ⊎ (after number t r ≡ t)
+      buffer a (yes b) = within a b (decLt s 8)
+      buffer a (no b) = inr (refused (WrongBufferLength (length (t .shifted))) refl (replace-room s (r .new) (length (t .stored)) (length (t .shifted)) a b))
+
+      whole : Dec (length (t .stored) ≡ 4096) → Taken t r ⊎ (after number t r ≡ t)
+      whole (yes a) = buffer a (ℕ-discrete (length (t .shifted)) 4080)
+      whole (no a) = inr (refused (WrongPageLength (length (t .stored))) refl (replace-page s (r .new) (length (t .stored)) (length (t .shifted)) a))
+
+  -- ON ANY SUMMARY, also another page's: one sector alone changes, and it becomes that of the new bytes
+  module _ (k : Taken t r) (h : length (t .fits) ≡ 8) where
+    s : ℕ
+    s = r .sector
+
+    ys : List ℕ
+    ys = sectorOf (offsetOf number s) (r .new)
+
+    long : length ys ≡ sectorEnd s - s * 512
+    unfolding ys s
+    long = sector-length (offsetOf number s) (r .new) ∙ k .sized
+
+    put-one : OneSector number r t (put number t r)
+    unfolding ys s
+    put-one =
+        record {
+          fit-new = getD-set-same (t .fits) s (fitOf (offsetOf number s) (r .new)) blankFit (omega (arith, k .within));
+          shifted-new = part-here (t .shifted) ys s (k .within) (omega (arith, k .buffer)) long;
+          stored-new = part-here (t .stored) (r .new) s (k .within) (omega (arith, k .whole)) (k .sized);
+          fits-kept = λ j ne. getD-set-other (t .fits) s j (fitOf (offsetOf number s) (r .new)) blankFit ne;
+          shifted-kept = λ j q ne. part-other (t .shifted) ys s (k .within) (omega (arith, k .buffer)) long j q ne;
+          stored-kept = λ j q ne. part-other (t .stored) (r .new) s (k .within) (omega (arith, k .whole)) (k .sized) j q ne;
+          trailer-kept = trailer-kept (t .stored) (r .new) s (k .within) (omega (arith, k .whole)) (k .sized);
+          lengths-kept = (
+            length-set (t .fits) s _ ∙ h,
+            whole-length (t .shifted) ys s (k .within) (omega (arith, k .buffer)) long ∙ k .buffer,
+            whole-length (t .stored) (r .new) s (k .within) (omega (arith, k .whole)) (k .sized) ∙ k .whole,
+          );
+        }
+
+    pub one-sector : OneSector number r t (after number t r)
+    one-sector = subst (OneSector number r t) (sym (taken-after k)) put-one
+
+-- a fresh summary stays fresh
+module _ (number : ℕ) (stored new : List ℕ) (s : ℕ) (hs : s < 8) (hp : length stored ≡ 4096) (hn : length new ≡ sectorEnd s - s * 512) where
+  abbrev other : List ℕ
+  other = over stored (s * 512) new
+
+  fits-agree : set (fitsOf number stored) s (fitOf (offsetOf number s) new) ≡ fitsOf number other
+  unfolding fitAt
+  fits-agree =
+      ap (λ (l : List ℕ). set (fitsOf number stored) s (fitOf (offsetOf number s) l)) (sym (part-here stored new s hs (omega arith) hn))
+      ∙ each-set (fitAt number stored) (fitAt number other) 8 s hs (λ t h ne. ap (fitOf (offsetOf number t)) (sym (part-other stored new s hs (omega arith) hn t h ne)))
+
+  bytes-agree : over (bytesOf number stored) (s * 512) (sectorOf (offsetOf number s) new) ≡ bytesOf number other
+  unfolding bytesAt
+  bytes-agree =
+      ap (λ (l : List ℕ). over (bytesOf number stored) (s * 512) (sectorOf (offsetOf number s) l)) (sym (part-here stored new s hs (omega arith) hn))
+      ∙ joined-over (bytesAt number stored) (bytesAt number other) 8 s (bytes-sized number stored hp)
+      (bytes-length number other (whole-length stored new s hs (omega arith) hn ∙ hp) s) hs (omega arith)
+      (λ t h ne. ap (sectorOf (offsetOf number t)) (sym (part-other stored new s hs (omega arith) hn t h ne)))
+
+pub fresh-after : (number : ℕ) (t : State) (r : Replacement) → Fresh number t → Fresh number (after number t r)
+fresh-after number t r f =
+    ⊎-elim (λ k. subst (Fresh number) (sym (taken-after number t r k)) (fresh k)) (λ e. subst (Fresh number) (sym e) f) (taken-or-same number t r)
+  where
+    fresh : Taken t r → Fresh number (put number t r)
+    fresh k =
+        let s : ℕ = r .sector in
+        record {
+          whole = whole-length (t .stored) (r .new) s (k .within) (omega (arith, k .whole)) (k .sized) ∙ k .whole;
+          bytes =
+              ap (λ (l : List ℕ). over l (s * 512) (sectorOf (offsetOf number s) (r .new))) (f .bytes)
+              ∙ bytes-agree number (t .stored) (r .new) s (k .within) (k .whole) (k .sized);
+          kept =
+              ap (λ (l : List Fit). set l s (fitOf (offsetOf number s) (r .new))) (f .kept)
+              ∙ fits-agree number (t .stored) (r .new) s (k .within) (k .whole) (k .sized);
+        }
+
+pub fresh-after-all : (number : ℕ) (rs : List Replacement) (t : State) → Fresh number t → Fresh number (afterAll number t rs)
+unfolding afterAll
+fresh-after-all number [] t f = f
+fresh-after-all number (r ∷ rs) t f = fresh-after-all number rs (after number t r) (fresh-after number t r f)
+
+-- a scan makes a fresh summary, and what is fresh is what a scan of its page makes
+module _ (number : ℕ) (stored buffer : List ℕ) (hp : length stored ≡ 4096) (hb : length buffer ≡ 4080) where
+  accepts : Accepted ≡ checked (length stored) (length buffer) Accepted
+  accepts = scan-good (length stored) (length buffer) hp hb
+
+  scan-bytes : scanned number stored buffer ≡ bytesOf number stored
+  scan-bytes = sym (scan-buffer number stored buffer Accepted accepts)
+
+  scan-fits : pageScanOf number stored (length buffer) .fits ≡ fitsOf number stored
+  scan-fits = sym (ap (λ (r : PageScan). r .fits) (scan-answer number stored buffer Accepted accepts))
+
+  pub fresh-scan : Fresh number (atScan number stored buffer)
+  fresh-scan = record { whole = hp; bytes = scan-bytes; kept = scan-fits }
+
+pub fresh-is : (number : ℕ) (t : State) (buffer : List ℕ) → Fresh number t → length buffer ≡ 4080 → t ≡ atScan number (t .stored) buffer
+fresh-is number t buffer f hb =
+    let b : t .shifted ≡ scanned number (t .stored) buffer = f .bytes ∙ sym (scan-bytes number (t .stored) buffer (f .whole) hb) in
+    let k : t .fits ≡ pageScanOf number (t .stored) (length buffer) .fits = f .kept ∙ sym (scan-fits number (t .stored) buffer (f .whole) hb) in
+    λ i. record { stored = t .stored; shifted = b i; fits = k i }
+
+-- AFTER A SCAN AND ANY REPLACEMENTS under one page number, repeats and refused ones included, the kept summary is what a scan of the final page makes
+pub scan-then-replace :
+    (number : ℕ) (stored buffer : List ℕ) (rs : List Replacement)
+    → length stored ≡ 4096
+    → length buffer ≡ 4080
+    → (other : List ℕ)
+    → length other ≡ 4080
+    → afterAll number (atScan number stored buffer) rs ≡ atScan number (afterAll number (atScan number stored buffer) rs .stored) other
+scan-then-replace number stored buffer rs hp hb other ho =
+    fresh-is number (afterAll number (atScan number stored buffer) rs) other (fresh-after-all number rs (atScan number stored buffer) (fresh-scan number stored buffer hp hb)) ho

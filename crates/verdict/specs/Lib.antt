@@ -1,0 +1,3 @@
+-- What is decided of a page.
+pub mod Sectors
+pub mod Verdict
