@@ -1,48 +1,57 @@
 /* Lists the rows of every page of a page file: list_rows FILE [LENIENCY].
-   cc -Wall -Wextra -Werror -I include bindings/c/list_rows.c target/staticlib/libcapi.a -o list_rows */
+   cc -Wall -Wextra -Werror -I include bindings/c/list_rows.c target/staticlib/liblumeviqo.a -o list_rows */
 #include <inttypes.h>
 #include <stdio.h>
 #include <stdlib.h>
 
 #include "lumeviqo.h"
 
-static uint64_t number_at(const uint8_t *bytes, size_t at, size_t width) {
+static uint64_t number_at(const uint8_t *bytes, size_t width) {
     uint64_t n = 0;
     for (size_t k = width; k > 0; k--)
-        n = n << 8 | bytes[at + k - 1];
+        n = n << 8 | bytes[k - 1];
     return n;
 }
 
-static void print_refusal(uint64_t page, const uint8_t *answer) {
-    printf("%" PRIu64 ": refused with answer %u:", page, answer[0]);
-    for (size_t k = 0; k < answer[1]; k++)
-        printf(" %" PRIu64, number_at(answer, 8 + 8 * k, 8));
+static void print_refusal(uint64_t number, const uint8_t *answer) {
+    printf("%" PRIu64 ": refused with answer %u:", number, answer[LUMEVIQO_ANSWER_NUMBER]);
+    for (size_t k = 0; k < answer[LUMEVIQO_ANSWER_VALUE_COUNT]; k++)
+        printf(" %" PRIu64, number_at(answer + LUMEVIQO_ANSWER_VALUES + LUMEVIQO_VALUE_LENGTH * k, LUMEVIQO_VALUE_LENGTH));
     putchar('\n');
 }
 
-static void list(uint64_t page, const uint8_t *stored, size_t length, uint8_t leniency) {
-    uint8_t plain[LUMEVIQO_PAGE], decoding[LUMEVIQO_DECODING], found[LUMEVIQO_ROWS];
-    lumeviqo_decode(page, stored, length, stored, 0, leniency, LUMEVIQO_MIN_TRAILER_COUNT, plain, sizeof plain, decoding, sizeof decoding);
-    if (decoding[0] != LUMEVIQO_ACCEPTED) {
-        print_refusal(page, decoding);
+/* Where row `row` of `rows` starts; behind the last one, where that ends. */
+static uint64_t start_of(const uint8_t *found, size_t row, size_t rows) {
+    const uint8_t *at = found + LUMEVIQO_ROWS_STARTS + LUMEVIQO_SLOT_LENGTH * row;
+    return row < rows ? number_at(at, LUMEVIQO_SLOT_LENGTH) : LUMEVIQO_SHIFTED_LENGTH;
+}
+
+static void list(uint64_t number, const uint8_t *stored, size_t length, uint8_t leniency) {
+    uint8_t plain[LUMEVIQO_PAGE_LENGTH], decoding[LUMEVIQO_DECODING_LENGTH], found[LUMEVIQO_ROWS_LENGTH];
+    lumeviqo_decode(number, stored, length, stored, 0, leniency, LUMEVIQO_MIN_TRAILER_COUNT, plain, sizeof plain, decoding, sizeof decoding);
+    if (decoding[LUMEVIQO_ANSWER_NUMBER] != LUMEVIQO_ACCEPTED) {
+        print_refusal(number, decoding);
         return;
     }
-    lumeviqo_rows(page, plain, sizeof plain, leniency, found, sizeof found);
-    if (found[0] != LUMEVIQO_ACCEPTED) {
-        print_refusal(page, found);
+    lumeviqo_rows(number, plain, sizeof plain, leniency, found, sizeof found);
+    if (found[LUMEVIQO_ANSWER_NUMBER] != LUMEVIQO_ACCEPTED) {
+        print_refusal(number, found);
         return;
     }
-    size_t rows = number_at(found, 40, 2);
-    printf("%" PRIu64 ": confidence %u, %zu rows, %u warnings\n", page, decoding[51], rows, decoding[121]);
-    for (size_t r = 0; r < rows; r++) {
-        uint64_t end = r + 1 < rows ? number_at(found, 44 + 2 * r, 2) : LUMEVIQO_SHIFTED;
-        printf("  %04" PRIx64 " to %04" PRIx64 "\n", number_at(found, 42 + 2 * r, 2), end);
-    }
+    size_t rows = number_at(found + LUMEVIQO_ROWS_COUNT, LUMEVIQO_ROWS_STARTS - LUMEVIQO_ROWS_COUNT);
+    printf("%" PRIu64 ": confidence %u, %zu rows, %u warnings\n", number, decoding[LUMEVIQO_DECODING_CONFIDENCE], rows,
+           decoding[LUMEVIQO_DECODING_WARNING_COUNT]);
+    for (size_t r = 0; r < rows; r++)
+        printf("  %04" PRIx64 " to %04" PRIx64 "\n", start_of(found, r, rows), start_of(found, r + 1, rows));
 }
 
 int main(int argc, char **argv) {
     if (argc < 2) {
         fprintf(stderr, "usage: list_rows FILE [LENIENCY]\n");
+        return EXIT_FAILURE;
+    }
+    if (lumeviqo_version() != LUMEVIQO_VERSION) {
+        fprintf(stderr, "list_rows was compiled with another version of lumeviqo.h than the library has: compile it anew\n");
         return EXIT_FAILURE;
     }
     uint8_t leniency = argc > 2 ? (uint8_t)atoi(argv[2]) : LUMEVIQO_STRICT;
@@ -51,10 +60,10 @@ int main(int argc, char **argv) {
         perror(argv[1]);
         return EXIT_FAILURE;
     }
-    uint8_t stored[LUMEVIQO_PAGE];
+    uint8_t stored[LUMEVIQO_PAGE_LENGTH];
     size_t length;
-    for (uint64_t page = 0; (length = fread(stored, 1, sizeof stored, file)) > 0; page++)
-        list(page, stored, length, leniency);
+    for (uint64_t number = 0; (length = fread(stored, 1, sizeof stored, file)) > 0; number++)
+        list(number, stored, length, leniency);
     fclose(file);
     return EXIT_SUCCESS;
 }

@@ -14,12 +14,23 @@
 
 #include <sanitizer/common_interface_defs.h>
 
-#include "lumeviqo.h"
+#include "layouts.h"
 
 enum { PAGE, FITS, SHIFTED, ANCHORS, BYTES, OUT, ANSWER, ROLES };
-enum { ROOM = 3 * 4096, DATA = LUMEVIQO_SHIFTED, LIMIT = 0x300, CANARY = 0x5C };
+enum { WHOLE = LUMEVIQO_PAGE_LENGTH, DATA = LUMEVIQO_SHIFTED_LENGTH, SECTOR = LUMEVIQO_SECTOR_LENGTH, SECTORS = LUMEVIQO_SECTOR_COUNT };
+enum { MEMORY_PAGE = 4096, ROOM = 3 * MEMORY_PAGE, CANARY = 0x5C };
+enum { ANSWERS = LUMEVIQO_NO_SUCH_ROW + 1, NO_ANSWER = ANSWERS };
+
+/* Places in a page: how far a directory is searched for and where a row may start, then of the trailer, from its first byte, and of
+   page 0. */
+enum { LIMIT = 0x300, FIRST_ROW = 0x20 };
+enum { AT_ROW_COUNT = 0, AT_TYPE = 2, AT_RESERVED = 3, AT_LSN = 4, AT_RESERVED_WORD = 8, AT_CRC = 12, TRAILER_LENGTH = WHOLE - DATA };
+enum { AT_FLAGS = 6, AT_BLOCK_LSN = 8, AT_MAJOR = 0x10, AT_MAGIC = 0x14, AT_A = 0x18, AT_B = 0x1A, AT_PAGE_HINT = 0x1C, BASE_FLAGS = 0x09 };
+#define MARKER "SAP SE, Copyright (c)2015 17.0.4."
+#define MAGIC 0xDA7ABA5E
+
 #define HUGE_LENGTH ((size_t)1 << 32)
-#define OF(role) (1u << (role))
+#define OF(bit) (1u << (bit))
 
 typedef struct {
     const char *name;
@@ -30,35 +41,58 @@ typedef struct {
 enum { CRC32, TRAILER, INTEGRITY, SUPERBLOCK, CHECKED, SCAN, REPLACE, DECODE, SUMMARY, SUPPLIED, SUPPLIED_SUMMARY, PARSE, COUNT, ROW,
        ROWS, FUNCTIONS };
 
-#define DECODING_REFUSALS 0xFE
-#define SUPPLIED_REFUSALS 0xC6
-#define PARSE_REFUSALS 0x1F02
+#define PAGE_REFUSALS OF(LUMEVIQO_WRONG_PAGE_LENGTH)
+#define BUFFER_REFUSALS (PAGE_REFUSALS | OF(LUMEVIQO_WRONG_BUFFER_LENGTH))
+#define INTEGRITY_REFUSALS (OF(LUMEVIQO_BAD_CRC) | OF(LUMEVIQO_BAD_TRAILER))
+#define SUPPLIED_REFUSALS (BUFFER_REFUSALS | OF(LUMEVIQO_KEYSTREAM_UNVERIFIED) | OF(LUMEVIQO_LOW_CONFIDENCE_KEYSTREAM))
+#define DECODING_REFUSALS (SUPPLIED_REFUSALS | INTEGRITY_REFUSALS | OF(LUMEVIQO_AMBIGUOUS_CALIBRATION))
+#define PARSE_REFUSALS                                                                                                                  \
+    (PAGE_REFUSALS | OF(LUMEVIQO_NO_SLOT_DIRECTORY) | OF(LUMEVIQO_UNKNOWN_PRELUDE) | OF(LUMEVIQO_SLOT_DIRECTORY_TRUNCATED)               \
+     | OF(LUMEVIQO_AMBIGUOUS_SLOT_DIRECTORY) | OF(LUMEVIQO_SLOT_OFFSET_IN_DIRECTORY))
 
 static const Function functions[FUNCTIONS] = {
     {"crc32", 0, OF(PAGE), 0, 0},
-    {"trailer", LUMEVIQO_TRAILER, OF(PAGE) | OF(ANSWER), OF(ANSWER), 0x02},
-    {"integrity", LUMEVIQO_INTEGRITY, OF(PAGE) | OF(ANSWER), OF(ANSWER), 0x1A},
-    {"superblock", LUMEVIQO_SUPERBLOCK, OF(PAGE) | OF(ANSWER), OF(ANSWER), 0x02},
-    {"superblock_checked", LUMEVIQO_SUPERBLOCK, OF(PAGE) | OF(ANSWER), OF(ANSWER), 0x2002},
-    {"scan", LUMEVIQO_SCAN, OF(PAGE) | OF(SHIFTED) | OF(ANSWER), OF(SHIFTED) | OF(ANSWER), 0x06},
-    {"replace", LUMEVIQO_REPLACEMENT, OF(PAGE) | OF(SHIFTED) | OF(FITS) | OF(BYTES) | OF(ANSWER), OF(PAGE) | OF(SHIFTED) | OF(ANSWER),
-     0x4006},
-    {"decode", LUMEVIQO_DECODING, OF(PAGE) | OF(ANCHORS) | OF(OUT) | OF(ANSWER), OF(OUT) | OF(ANSWER), DECODING_REFUSALS},
-    {"decode_summary", LUMEVIQO_DECODING, OF(PAGE) | OF(FITS) | OF(SHIFTED) | OF(ANCHORS) | OF(OUT) | OF(ANSWER), OF(OUT) | OF(ANSWER),
-     DECODING_REFUSALS},
-    {"decode_supplied", LUMEVIQO_DECODING, OF(PAGE) | OF(OUT) | OF(ANSWER), OF(OUT) | OF(ANSWER), SUPPLIED_REFUSALS},
-    {"decode_supplied_summary", LUMEVIQO_DECODING, OF(PAGE) | OF(FITS) | OF(SHIFTED) | OF(OUT) | OF(ANSWER), OF(OUT) | OF(ANSWER),
+    {"trailer", LUMEVIQO_TRAILER_LENGTH, OF(PAGE) | OF(ANSWER), OF(ANSWER), PAGE_REFUSALS},
+    {"integrity", LUMEVIQO_INTEGRITY_LENGTH, OF(PAGE) | OF(ANSWER), OF(ANSWER), PAGE_REFUSALS | INTEGRITY_REFUSALS},
+    {"superblock", LUMEVIQO_SUPERBLOCK_LENGTH, OF(PAGE) | OF(ANSWER), OF(ANSWER), PAGE_REFUSALS},
+    {"superblock_checked", LUMEVIQO_SUPERBLOCK_LENGTH, OF(PAGE) | OF(ANSWER), OF(ANSWER), PAGE_REFUSALS | OF(LUMEVIQO_BAD_MAGIC)},
+    {"scan", LUMEVIQO_SCAN_LENGTH, OF(PAGE) | OF(SHIFTED) | OF(ANSWER), OF(SHIFTED) | OF(ANSWER), BUFFER_REFUSALS},
+    {"replace", LUMEVIQO_REPLACEMENT_LENGTH, OF(PAGE) | OF(SHIFTED) | OF(FITS) | OF(BYTES) | OF(ANSWER),
+     OF(PAGE) | OF(SHIFTED) | OF(ANSWER), BUFFER_REFUSALS | OF(LUMEVIQO_BAD_REPLACEMENT)},
+    {"decode", LUMEVIQO_DECODING_LENGTH, OF(PAGE) | OF(ANCHORS) | OF(OUT) | OF(ANSWER), OF(OUT) | OF(ANSWER), DECODING_REFUSALS},
+    {"decode_summary", LUMEVIQO_DECODING_LENGTH, OF(PAGE) | OF(FITS) | OF(SHIFTED) | OF(ANCHORS) | OF(OUT) | OF(ANSWER),
+     OF(OUT) | OF(ANSWER), DECODING_REFUSALS},
+    {"decode_supplied", LUMEVIQO_DECODING_LENGTH, OF(PAGE) | OF(OUT) | OF(ANSWER), OF(OUT) | OF(ANSWER), SUPPLIED_REFUSALS},
+    {"decode_supplied_summary", LUMEVIQO_DECODING_LENGTH, OF(PAGE) | OF(FITS) | OF(SHIFTED) | OF(OUT) | OF(ANSWER), OF(OUT) | OF(ANSWER),
      SUPPLIED_REFUSALS},
-    {"parse", LUMEVIQO_PARSE, OF(PAGE) | OF(ANSWER), OF(ANSWER), PARSE_REFUSALS},
-    {"row_count", LUMEVIQO_ROW_COUNT, OF(PAGE) | OF(ANSWER), OF(ANSWER), PARSE_REFUSALS},
-    {"row", LUMEVIQO_ROW, OF(PAGE) | OF(ANSWER), OF(ANSWER), 0x10000 | PARSE_REFUSALS},
-    {"rows", LUMEVIQO_ROWS, OF(PAGE) | OF(ANSWER), OF(ANSWER), PARSE_REFUSALS},
+    {"parse", LUMEVIQO_PARSE_LENGTH, OF(PAGE) | OF(ANSWER), OF(ANSWER), PARSE_REFUSALS},
+    {"row_count", LUMEVIQO_ROW_COUNT_LENGTH, OF(PAGE) | OF(ANSWER), OF(ANSWER), PARSE_REFUSALS},
+    {"row", LUMEVIQO_ROW_LENGTH, OF(PAGE) | OF(ANSWER), OF(ANSWER), PARSE_REFUSALS | OF(LUMEVIQO_NO_SUCH_ROW)},
+    {"rows", LUMEVIQO_ROWS_LENGTH, OF(PAGE) | OF(ANSWER), OF(ANSWER), PARSE_REFUSALS},
 };
 
 static const char *const roles[ROLES] = {"page", "fits", "shifted", "anchors", "bytes", "out", "answer"};
 
 /* How many values each answer has. */
-static const uint8_t values_of[17] = {0, 1, 1, 3, 1, 1, 2, 4, 2, 1, 4, 1, 3, 1, 1, 1, 1};
+static const uint8_t values_of[ANSWERS] = {
+    [LUMEVIQO_ACCEPTED] = 0,
+    [LUMEVIQO_WRONG_PAGE_LENGTH] = 1,
+    [LUMEVIQO_WRONG_BUFFER_LENGTH] = 1,
+    [LUMEVIQO_BAD_CRC] = 3,
+    [LUMEVIQO_BAD_TRAILER] = 1,
+    [LUMEVIQO_AMBIGUOUS_CALIBRATION] = 1,
+    [LUMEVIQO_KEYSTREAM_UNVERIFIED] = 2,
+    [LUMEVIQO_LOW_CONFIDENCE_KEYSTREAM] = 4,
+    [LUMEVIQO_NO_SLOT_DIRECTORY] = 2,
+    [LUMEVIQO_UNKNOWN_PRELUDE] = 1,
+    [LUMEVIQO_SLOT_DIRECTORY_TRUNCATED] = 4,
+    [LUMEVIQO_AMBIGUOUS_SLOT_DIRECTORY] = 1,
+    [LUMEVIQO_SLOT_OFFSET_IN_DIRECTORY] = 3,
+    [LUMEVIQO_BAD_MAGIC] = 1,
+    [LUMEVIQO_BAD_REPLACEMENT] = 1,
+    [LUMEVIQO_TOO_MANY_CANDIDATES] = 1,
+    [LUMEVIQO_NO_SUCH_ROW] = 1,
+};
 
 /* What is asked: the scalars, and what each buffer holds before the call. Of 2^32 bytes all are zero. */
 typedef struct {
@@ -79,7 +113,7 @@ typedef struct {
 
 static Call call;
 static Outcome at_end, at_start, fresh;
-static uint64_t calls_made, answers[FUNCTIONS][18];
+static uint64_t calls_made, answers[FUNCTIONS][ANSWERS + 1]; /* by function and number, the last where nothing is answered */
 
 static uint8_t *arenas[ROLES];
 
@@ -127,6 +161,7 @@ static void put_number(uint8_t *bytes, size_t width, uint64_t n) {
         bytes[k] = (uint8_t)(n >> 8 * k);
 }
 
+/* Whether bytes are all one value, and whether those from an offset up to another are zero. */
 static bool all_are(const uint8_t *bytes, size_t length, uint8_t value) {
     for (size_t k = 0; k < length; k++)
         if (bytes[k] != value)
@@ -134,7 +169,18 @@ static bool all_are(const uint8_t *bytes, size_t length, uint8_t value) {
     return true;
 }
 
-static size_t sector_length(size_t sector) { return sector == 7 ? 496 : 512; }
+static bool zero_between(const uint8_t *bytes, size_t from, size_t to) { return all_are(bytes + from, to - from, 0); }
+
+static uint64_t u16_at(const uint8_t *bytes) { return number_at(bytes, 2); }
+static uint64_t u64_at(const uint8_t *bytes) { return number_at(bytes, 8); }
+static void put_u16(uint8_t *bytes, uint64_t n) { put_number(bytes, 2, n); }
+static void put_u32(uint8_t *bytes, uint64_t n) { put_number(bytes, 4, n); }
+
+/* Whether two fields of 4 bytes, or of 2, hold the same number. */
+static bool same_u32(const uint8_t *a, const uint8_t *b) { return memcmp(a, b, 4) == 0; }
+static bool same_u16(const uint8_t *a, const uint8_t *b) { return memcmp(a, b, 2) == 0; }
+
+static size_t sector_length(size_t sector) { return sector == SECTORS - 1 ? LUMEVIQO_LAST_SECTOR_LENGTH : SECTOR; }
 
 /* The CRC by its definition, a bit at a time: what the library's is held against. */
 static uint32_t next_bit(uint32_t crc) { return crc >> 1 ^ (crc & 1 ? 0xEDB88320 : 0); }
@@ -180,13 +226,13 @@ static void let(uint8_t *arena, size_t length, int protection) {
 
 /* ROOM or 2^32 bytes between two pages that nothing can touch. */
 static uint8_t *fenced(size_t length) {
-    uint8_t *all = mmap(NULL, length + 2 * 4096, PROT_NONE, MAP_PRIVATE | MAP_ANONYMOUS | MAP_NORESERVE, -1, 0);
+    uint8_t *all = mmap(NULL, length + 2 * MEMORY_PAGE, PROT_NONE, MAP_PRIVATE | MAP_ANONYMOUS | MAP_NORESERVE, -1, 0);
     if (all == MAP_FAILED) {
         perror("mmap");
         exit(EXIT_FAILURE);
     }
-    let(all + 4096, length, PROT_READ | PROT_WRITE);
-    return all + 4096;
+    let(all + MEMORY_PAGE, length, PROT_READ | PROT_WRITE);
+    return all + MEMORY_PAGE;
 }
 
 static uint8_t *lend(int role, bool end) {
@@ -207,12 +253,12 @@ static uint8_t *lend(int role, bool end) {
 
 /* Of 2^32 bytes those in memory, past what the call may have written, must be the zeros they were. */
 static void must_stay_zero(const uint8_t *arena, size_t from) {
-    unsigned char *present = malloc(HUGE_LENGTH / 4096);
+    unsigned char *present = malloc(HUGE_LENGTH / MEMORY_PAGE);
     must(present != NULL && mincore((void *)arena, HUGE_LENGTH, present) == 0, "mincore answers");
-    for (size_t page = 0; page < HUGE_LENGTH / 4096; page++) {
-        size_t start = page * 4096 < from ? from : page * 4096;
-        if (present[page] & 1 && start < (page + 1) * 4096)
-            must(all_are(arena + start, (page + 1) * 4096 - start, 0), "bytes past the layout stay, in a buffer of 2^32");
+    for (size_t page = 0; page < HUGE_LENGTH / MEMORY_PAGE; page++) {
+        size_t begin = page * MEMORY_PAGE, end = begin + MEMORY_PAGE, start = begin < from ? from : begin;
+        if (present[page] & 1 && start < end)
+            must(all_are(arena + start, end - start, 0), "bytes past the layout stay, in a buffer of 2^32");
     }
     free(present);
 }
@@ -225,7 +271,7 @@ static void take_back(int role, bool end, Outcome *outcome) {
         if (f->written & OF(role))
             must_stay_zero(arena, role == ANSWER ? outcome->returned : 0);
         memcpy(outcome->held[role], arena, ROOM);
-        munmap(arena - 4096, HUGE_LENGTH + 2 * 4096);
+        munmap(arena - MEMORY_PAGE, HUGE_LENGTH + 2 * MEMORY_PAGE);
         return;
     }
     let(arena, ROOM, PROT_READ | PROT_WRITE);
@@ -285,19 +331,19 @@ static void run(bool end, Outcome *outcome) {
 static int decided(uint64_t *value) {
     const Function *f = &functions[call.function];
     const size_t *n = call.length;
-    if (n[ANSWER] < f->layout || (f->lent & OF(FITS) && n[FITS] != LUMEVIQO_FITS))
+    if (n[ANSWER] < f->layout || (f->lent & OF(FITS) && n[FITS] != LUMEVIQO_FITS_LENGTH))
         return -1;
     *value = n[PAGE];
-    if (n[PAGE] != LUMEVIQO_PAGE)
+    if (n[PAGE] != WHOLE)
         return LUMEVIQO_WRONG_PAGE_LENGTH;
     *value = n[OUT];
-    if (f->lent & OF(OUT) && n[OUT] != LUMEVIQO_PAGE)
+    if (f->lent & OF(OUT) && n[OUT] != WHOLE)
         return LUMEVIQO_WRONG_BUFFER_LENGTH;
     *value = n[SHIFTED];
-    if (f->lent & OF(SHIFTED) && n[SHIFTED] != LUMEVIQO_SHIFTED)
+    if (f->lent & OF(SHIFTED) && n[SHIFTED] != DATA)
         return LUMEVIQO_WRONG_BUFFER_LENGTH;
     *value = call.sector;
-    if (f->lent & OF(BYTES) && (call.sector > 7 || n[BYTES] != sector_length(call.sector)))
+    if (f->lent & OF(BYTES) && (call.sector >= SECTORS || n[BYTES] != sector_length(call.sector)))
         return LUMEVIQO_BAD_REPLACEMENT;
     return LUMEVIQO_ACCEPTED;
 }
@@ -314,42 +360,63 @@ static void must_stay_all(const Outcome *o, size_t from) {
 }
 
 static void check_answer_part(const uint8_t *a) {
-    must(a[0] == 0 || (a[0] < 17 && functions[call.function].refusals >> a[0] & 1), "the answer is one of the function's");
-    must(a[1] == values_of[a[0]], "the answer has its number of values");
-    must(all_are(a + 2, 6, 0) && all_are(a + 8 + 8 * a[1], 32 - 8 * (size_t)a[1], 0), "unused places of the answer part are zero");
-    must(a[0] < 3 || a[0] > 12 || number_at(a + 8, 8) == call.number, "the first value is the page number");
+    uint8_t number = a[LUMEVIQO_ANSWER_NUMBER], count = a[LUMEVIQO_ANSWER_VALUE_COUNT];
+    must(number == LUMEVIQO_ACCEPTED || (number < ANSWERS && functions[call.function].refusals & OF(number)),
+         "the answer is one of the function's");
+    must(count == values_of[number], "the answer has its number of values");
+    must(zero_between(a, LUMEVIQO_ANSWER_ZEROS, LUMEVIQO_ANSWER_VALUES)
+             && zero_between(a, LUMEVIQO_ANSWER_VALUES + LUMEVIQO_VALUE_LENGTH * count, LUMEVIQO_ANSWER_LENGTH),
+         "unused places of the answer part are zero");
+    must(number < LUMEVIQO_BAD_CRC || number > LUMEVIQO_SLOT_OFFSET_IN_DIRECTORY || u64_at(a + LUMEVIQO_ANSWER_VALUES) == call.number,
+         "the first value is the page number");
 }
 
+/* Where a sector's fit stands among the fits. */
+static size_t fit_at(size_t sector) { return LUMEVIQO_FIT_LENGTH * sector; }
+
 /* Fits as they come back: exact is 0 or 1. */
-static bool same_fit(const uint8_t *lent, const uint8_t *back) { return memcmp(lent, back, 5) == 0 && back[5] == (lent[5] != 0); }
+static bool same_fit(const uint8_t *lent, const uint8_t *back) {
+    return memcmp(lent, back, LUMEVIQO_FIT_EXACT) == 0 && back[LUMEVIQO_FIT_EXACT] == (lent[LUMEVIQO_FIT_EXACT] != 0);
+}
+
+static void check_candidates(const uint8_t *a, size_t least) {
+    size_t count = a[LUMEVIQO_DECODING_CANDIDATE_COUNT];
+    const uint8_t *candidates = a + LUMEVIQO_DECODING_CANDIDATES;
+    must(count >= least && count <= LUMEVIQO_MOST_CANDIDATES, "there are as many candidates as there may be");
+    must(zero_between(a, LUMEVIQO_DECODING_CANDIDATES + count, LUMEVIQO_DECODING_BV), "unused places for candidates are zero");
+    for (size_t k = 1; k < count; k++)
+        must(candidates[k - 1] < candidates[k], "candidates ascend");
+}
 
 static void check_refusal(const Outcome *o) {
     const uint8_t *a = o->held[ANSWER];
-    size_t layout = functions[call.function].layout, zero_from = LUMEVIQO_ANSWER;
+    size_t layout = functions[call.function].layout, zero_from = LUMEVIQO_ANSWER_LENGTH;
     must_stay_all(o, layout);
     if (call.function == REPLACE) {
-        for (size_t s = 0; s < 8; s++)
-            must(same_fit(call.held[FITS] + 6 * s, a + 40 + 6 * s), "a refused replacement has the fits that were lent");
+        for (size_t s = 0; s < SECTORS; s++)
+            must(same_fit(call.held[FITS] + fit_at(s), a + LUMEVIQO_REPLACEMENT_FITS + fit_at(s)),
+                 "a refused replacement has the fits that were lent");
         return;
     }
-    if (a[0] == LUMEVIQO_AMBIGUOUS_CALIBRATION) {
-        must(a[40] >= 2 && a[40] <= 8 && all_are(a + 41 + a[40], 8 - (size_t)a[40], 0), "there are 2 to 8 candidates");
-        for (size_t k = 1; k < a[40]; k++)
-            must(a[40 + k] < a[41 + k], "candidates ascend");
-        zero_from = 49;
+    if (a[LUMEVIQO_ANSWER_NUMBER] == LUMEVIQO_AMBIGUOUS_CALIBRATION) {
+        check_candidates(a, 2);
+        zero_from = LUMEVIQO_DECODING_BV;
     }
-    must(all_are(a + zero_from, layout - zero_from, 0), "every byte behind a refusal's answer part is zero");
+    must(zero_between(a, zero_from, layout), "every byte behind a refusal's answer part is zero");
 }
 
 static void check_warnings(const uint8_t *at, size_t count, size_t places, uint8_t least, uint8_t greatest) {
-    must(count <= places && all_are(at + 33 * count, 33 * (places - count), 0), "unused warnings are zero");
-    for (size_t k = 0; k < count; k++)
-        must(at[33 * k] >= least && at[33 * k] <= greatest && number_at(at + 33 * k + 1, 8) == call.number, "warnings are of their kinds and page");
+    size_t used = LUMEVIQO_WARNING_LENGTH * count;
+    must(count <= places && zero_between(at, used, LUMEVIQO_WARNING_LENGTH * places), "unused warnings are zero");
+    for (const uint8_t *w = at; w < at + used; w += LUMEVIQO_WARNING_LENGTH) {
+        uint8_t number = w[LUMEVIQO_WARNING_NUMBER];
+        must(number >= least && number <= greatest && u64_at(w + LUMEVIQO_WARNING_PAGE) == call.number, "warnings are of their kinds and page");
+    }
 }
 
 static uint8_t shift_of(size_t at, const uint8_t *fits) {
-    uint64_t p = call.number, s = at / 512, i = at % 512;
-    return (uint8_t)(p + s - 4 * (p % 16 / 2) + i * fits[6 * s]);
+    uint64_t p = call.number, s = at / SECTOR, i = at % SECTOR;
+    return (uint8_t)(p + s - 4 * (p % 16 / 2) + i * fits[fit_at(s) + LUMEVIQO_FIT_STEP]);
 }
 
 static void check_shifted(const uint8_t *page, const uint8_t *shifted, const uint8_t *fits, uint8_t bv) {
@@ -359,65 +426,75 @@ static void check_shifted(const uint8_t *page, const uint8_t *shifted, const uin
 
 static void check_decoding(const Outcome *o) {
     const uint8_t *a = o->held[ANSWER], *page = call.held[PAGE], *out = o->held[OUT], *shifted = call.held[SHIFTED];
-    bool from_summary = functions[call.function].lent & OF(SHIFTED), unallocated = all_are(page, LUMEVIQO_PAGE, 0);
-    must(a[40] <= 8 && all_are(a + 41 + a[40], 8 - (size_t)a[40], 0), "unused places for bv are zero");
-    must(a[50] >= 1 && a[50] <= 6 && a[51] >= 1 && a[51] <= 5, "source and confidence are in their ranges");
-    must(a[52] <= 4 && all_are(a + 53 + 5 * a[52], 20 - 5 * (size_t)a[52], 0), "unused evidence is zero");
-    check_warnings(a + 122, a[121], 10, 3, 7);
-    must(call.leniency & 5 || a[121] == 0, "a strict decoding has no warnings");
-    must((a[50] == LUMEVIQO_SOURCE_UNALLOCATED) == unallocated, "a page is unallocated where all of it is zero");
-    must(memcmp(out + DATA, page + DATA, LUMEVIQO_PAGE - DATA) == 0, "the trailer is copied");
+    bool from_summary = functions[call.function].lent & OF(SHIFTED), unallocated = all_are(page, WHOLE, 0);
+    uint8_t bv = a[LUMEVIQO_DECODING_BV], source = a[LUMEVIQO_DECODING_SOURCE], confidence = a[LUMEVIQO_DECODING_CONFIDENCE];
+    size_t evidence = a[LUMEVIQO_DECODING_EVIDENCE_COUNT], warnings = a[LUMEVIQO_DECODING_WARNING_COUNT];
+    check_candidates(a, 0);
+    must(source >= LUMEVIQO_SOURCE_TRAILER_ROW_COUNT && source <= LUMEVIQO_SOURCE_UNALLOCATED, "the source is in its range");
+    must(confidence >= LUMEVIQO_CONFIDENCE_UNALLOCATED && confidence <= LUMEVIQO_CONFIDENCE_VERIFIED, "the confidence is in its range");
+    must(evidence <= LUMEVIQO_MOST_EVIDENCE
+             && zero_between(a, LUMEVIQO_DECODING_EVIDENCE + LUMEVIQO_EVIDENCE_LENGTH * evidence, LUMEVIQO_DECODING_FITS),
+         "unused evidence is zero");
+    check_warnings(a + LUMEVIQO_DECODING_WARNINGS, warnings, LUMEVIQO_MOST_WARNINGS, LUMEVIQO_WARNED_BAD_CRC,
+                   LUMEVIQO_WARNED_LOW_CONFIDENCE_SECTOR);
+    must(call.leniency & (LUMEVIQO_LENIENT_KEYSTREAM | LUMEVIQO_LENIENT_INTEGRITY) || warnings == 0, "a strict decoding has no warnings");
+    must((source == LUMEVIQO_SOURCE_UNALLOCATED) == unallocated, "a page is unallocated where all of it is zero");
+    must(memcmp(out + DATA, page + DATA, TRAILER_LENGTH) == 0, "the trailer is copied");
     if (unallocated)
         must(all_are(out, DATA, 0), "an unallocated page is zeros");
     else if (!from_summary)
-        check_shifted(page, out, a + 73, a[49]);
+        check_shifted(page, out, a + LUMEVIQO_DECODING_FITS, bv);
     else
         for (size_t k = 0; k < DATA; k++)
-            must(out[k] == (uint8_t)(shifted[k] - a[49]), "plaintext is the shifted byte less bv");
+            must(out[k] == (uint8_t)(shifted[k] - bv), "plaintext is the shifted byte less bv");
 }
 
 /* The scan of a page alone, with nothing but the page from the call. */
 static void scan_anew(const uint8_t *page) {
-    fresh.returned =
-        lumeviqo_scan(call.number, page, LUMEVIQO_PAGE, fresh.held[SHIFTED], LUMEVIQO_SHIFTED, fresh.held[ANSWER], LUMEVIQO_SCAN);
+    fresh.returned = lumeviqo_scan(call.number, page, WHOLE, fresh.held[SHIFTED], DATA, fresh.held[ANSWER], LUMEVIQO_SCAN_LENGTH);
 }
 
 static void check_replacement(const Outcome *o) {
-    const uint8_t *a = o->held[ANSWER], *page = o->held[PAGE];
-    size_t s = call.sector, from = 512 * s, n = sector_length(s);
+    const uint8_t *a = o->held[ANSWER], *page = o->held[PAGE], *fits = a + LUMEVIQO_REPLACEMENT_FITS;
+    size_t s = call.sector, from = SECTOR * s, n = sector_length(s);
     must(memcmp(page, call.held[PAGE], from) == 0 && memcmp(page + from, call.held[BYTES], n) == 0
-             && memcmp(page + from + n, call.held[PAGE] + from + n, LUMEVIQO_PAGE - from - n) == 0, "the sector alone is replaced in the page");
-    for (size_t k = 0; k < 8; k++)
-        must(k == s || same_fit(call.held[FITS] + 6 * k, a + 40 + 6 * k), "the other seven fits are those that were lent");
+             && memcmp(page + from + n, call.held[PAGE] + from + n, WHOLE - from - n) == 0, "the sector alone is replaced in the page");
+    for (size_t k = 0; k < SECTORS; k++)
+        must(k == s || same_fit(call.held[FITS] + fit_at(k), fits + fit_at(k)), "the other seven fits are those that were lent");
     for (size_t k = 0; k < DATA; k++)
-        must(k / 512 == s || o->held[SHIFTED][k] == call.held[SHIFTED][k], "the other sectors' shifted bytes stay");
+        must(k / SECTOR == s || o->held[SHIFTED][k] == call.held[SHIFTED][k], "the other sectors' shifted bytes stay");
     scan_anew(page);
-    must(memcmp(fresh.held[ANSWER] + 40 + 6 * s, a + 40 + 6 * s, 6) == 0, "the sector's fit is that of a fresh scan");
+    must(memcmp(fresh.held[ANSWER] + LUMEVIQO_SCAN_FITS + fit_at(s), fits + fit_at(s), LUMEVIQO_FIT_LENGTH) == 0,
+         "the sector's fit is that of a fresh scan");
     must(memcmp(fresh.held[SHIFTED] + from, o->held[SHIFTED] + from, n) == 0, "its shifted bytes are those of a fresh scan");
-    must(!call.own_summary || (memcmp(fresh.held[ANSWER], a, LUMEVIQO_SCAN) == 0 && memcmp(fresh.held[SHIFTED], o->held[SHIFTED], DATA) == 0),
+    must(!call.own_summary
+             || (memcmp(fresh.held[ANSWER], a, LUMEVIQO_SCAN_LENGTH) == 0 && memcmp(fresh.held[SHIFTED], o->held[SHIFTED], DATA) == 0),
          "a summary kept is a summary made afresh");
 }
 
 static void check_parse(const uint8_t *a) {
-    uint64_t start = number_at(a + 41, 2), end = number_at(a + 43, 2), slots = number_at(a + 45, 2);
-    must(a[40] <= 1 && a[47] <= 1 && start <= end && end <= LUMEVIQO_PAGE && slots <= 384, "the directory is in the page");
-    must(all_are(a + 50 + 2 * slots, 768 - 2 * slots, 0), "unused slots are zero");
-    must(a[40] == 1 || all_are(a + 41, 777, 0), "no directory has no fields");
-    check_warnings(a + 820, number_at(a + 818, 2), 3, 8, 12);
-    must(call.leniency & LUMEVIQO_DIRECTORY || number_at(a + 818, 2) == 0, "a strict parse has no warnings");
+    uint64_t start = u16_at(a + LUMEVIQO_PARSE_START), end = u16_at(a + LUMEVIQO_PARSE_END), slots = u16_at(a + LUMEVIQO_PARSE_SLOT_COUNT);
+    uint64_t warnings = u16_at(a + LUMEVIQO_PARSE_WARNING_COUNT);
+    must(a[LUMEVIQO_PARSE_FOUND] <= 1 && a[LUMEVIQO_PARSE_DECLARED] <= 1, "flags are 0 or 1");
+    must(start <= end && end <= WHOLE && slots <= LUMEVIQO_MOST_SLOTS, "the directory is in the page");
+    must(zero_between(a, LUMEVIQO_PARSE_SLOTS + LUMEVIQO_SLOT_LENGTH * slots, LUMEVIQO_PARSE_WARNING_COUNT), "unused slots are zero");
+    must(a[LUMEVIQO_PARSE_FOUND] == 1 || zero_between(a, LUMEVIQO_PARSE_START, LUMEVIQO_PARSE_WARNING_COUNT), "no directory has no fields");
+    check_warnings(a + LUMEVIQO_PARSE_WARNINGS, warnings, LUMEVIQO_MOST_PARSE_WARNINGS, LUMEVIQO_WARNED_UNVERIFIED_DIRECTORY,
+                   LUMEVIQO_WARNED_SLOT_OFFSETS_IN_DIRECTORY);
+    must(call.leniency & LUMEVIQO_LENIENT_DIRECTORY || warnings == 0, "a strict parse has no warnings");
 }
 
 /* Each row starts where the one before ends, and the last ends where the data do. */
 static void check_rows(const uint8_t *a) {
-    size_t rows = number_at(a + 40, 2), next = 0x20;
-    uint8_t row[LUMEVIQO_ROW];
-    must(rows <= 384, "there are no more than 384 rows");
+    size_t rows = u16_at(a + LUMEVIQO_ROW_COUNT_ROWS), next = FIRST_ROW;
+    uint8_t row[LUMEVIQO_ROW_LENGTH];
+    must(rows <= LUMEVIQO_MOST_SLOTS, "there are no more rows than slots");
     for (size_t r = 0; r <= rows; r++) {
-        lumeviqo_row(call.number, call.held[PAGE], LUMEVIQO_PAGE, call.leniency, r, row, sizeof row);
-        must(row[0] == (r < rows ? LUMEVIQO_ACCEPTED : LUMEVIQO_NO_SUCH_ROW), "row_count counts the rows");
+        lumeviqo_row(call.number, call.held[PAGE], WHOLE, call.leniency, r, row, sizeof row);
+        must(row[LUMEVIQO_ANSWER_NUMBER] == (r < rows ? LUMEVIQO_ACCEPTED : LUMEVIQO_NO_SUCH_ROW), "row_count counts the rows");
         if (r == rows)
             break;
-        size_t start = number_at(row + 40, 2), end = number_at(row + 42, 2);
+        size_t start = u16_at(row + LUMEVIQO_ROW_START), end = u16_at(row + LUMEVIQO_ROW_END);
         must(start < end && (r == 0 ? start >= next : start == next), "rows ascend");
         next = end;
     }
@@ -426,34 +503,40 @@ static void check_rows(const uint8_t *a) {
 
 /* The rows are as many as row_count says, and those of row: each ends where the next one starts. */
 static void check_starts(const uint8_t *a) {
-    size_t rows = number_at(a + 40, 2);
-    uint8_t count[LUMEVIQO_ROW_COUNT], row[LUMEVIQO_ROW];
-    lumeviqo_row_count(call.number, call.held[PAGE], LUMEVIQO_PAGE, call.leniency, count, sizeof count);
-    must(rows <= 384 && rows == number_at(count + 40, 2), "there are as many rows as row_count says");
-    must(all_are(a + 42 + 2 * rows, 768 - 2 * rows, 0), "unused places for rows are zero");
+    size_t rows = u16_at(a + LUMEVIQO_ROWS_COUNT), used = LUMEVIQO_ROWS_STARTS + LUMEVIQO_SLOT_LENGTH * rows;
+    uint8_t count[LUMEVIQO_ROW_COUNT_LENGTH], row[LUMEVIQO_ROW_LENGTH];
+    lumeviqo_row_count(call.number, call.held[PAGE], WHOLE, call.leniency, count, sizeof count);
+    must(rows <= LUMEVIQO_MOST_SLOTS && rows == u16_at(count + LUMEVIQO_ROW_COUNT_ROWS), "there are as many rows as row_count says");
+    must(zero_between(a, used, LUMEVIQO_ROWS_LENGTH), "unused places for rows are zero");
     for (size_t r = 0; r < rows; r++) {
-        lumeviqo_row(call.number, call.held[PAGE], LUMEVIQO_PAGE, call.leniency, r, row, sizeof row);
-        size_t end = r + 1 < rows ? number_at(a + 44 + 2 * r, 2) : DATA;
-        must(number_at(a + 42 + 2 * r, 2) == number_at(row + 40, 2) && end == number_at(row + 42, 2), "each row is that of lumeviqo_row");
+        const uint8_t *at = a + LUMEVIQO_ROWS_STARTS + LUMEVIQO_SLOT_LENGTH * r;
+        lumeviqo_row(call.number, call.held[PAGE], WHOLE, call.leniency, r, row, sizeof row);
+        size_t end = r + 1 < rows ? u16_at(at + LUMEVIQO_SLOT_LENGTH) : DATA;
+        must(u16_at(at) == u16_at(row + LUMEVIQO_ROW_START) && end == u16_at(row + LUMEVIQO_ROW_END), "each row is that of lumeviqo_row");
     }
 }
 
 static void check_row(const uint8_t *a) {
-    uint64_t start = number_at(a + 40, 2), end = number_at(a + 42, 2);
-    must(0x20 <= start && start < end && end <= DATA, "a row is in the data");
+    uint64_t start = u16_at(a + LUMEVIQO_ROW_START), end = u16_at(a + LUMEVIQO_ROW_END);
+    must(FIRST_ROW <= start && start < end && end <= DATA, "a row is in the data");
 }
 
 static void check_trailer(const uint8_t *a) {
     const uint8_t *t = call.held[PAGE] + DATA;
-    must(a[40] == t[0] && memcmp(a + 44, t + 4, 4) == 0 && memcmp(a + 48, t + 12, 4) == 0, "the trailer's fields are the page's");
-    must(a[42] <= 7 && a[43] <= 1 && a[52] == (t[3] == 0 && all_are(t + 8, 4, 0)), "the trailer's flags are the page's");
+    must(a[LUMEVIQO_TRAILER_ROW_COUNT] == t[AT_ROW_COUNT] && same_u32(a + LUMEVIQO_TRAILER_LSN, t + AT_LSN)
+             && same_u32(a + LUMEVIQO_TRAILER_CRC, t + AT_CRC), "the trailer's fields are the page's");
+    must(a[LUMEVIQO_TRAILER_TYPE] <= LUMEVIQO_TYPE_INDEX && a[LUMEVIQO_TRAILER_CASE_VARIANT] <= 1
+             && a[LUMEVIQO_TRAILER_RESERVED_ZERO] == (t[AT_RESERVED] == 0 && zero_between(t, AT_RESERVED_WORD, AT_CRC)),
+         "the trailer's flags are the page's");
 }
 
 static void check_superblock(const uint8_t *a) {
     const uint8_t *p = call.held[PAGE];
-    must(a[40] == p[6] && a[41] == (p[6] & 0xF6) && memcmp(a + 42, p + 8, 4) == 0 && memcmp(a + 46, p + 0x10, 4) == 0
-             && memcmp(a + 50, p + 0x18, 4) == 0 && memcmp(a + 54, p + 0x14, 4) == 0 && memcmp(a + 58, p + 0x1C, 4) == 0 && a[62] <= 1,
-         "the superblock's fields are the page's");
+    must(a[LUMEVIQO_SUPERBLOCK_FLAGS] == p[AT_FLAGS] && a[LUMEVIQO_SUPERBLOCK_VARIANT_BITS] == (p[AT_FLAGS] & ~BASE_FLAGS)
+             && same_u32(a + LUMEVIQO_SUPERBLOCK_LSN, p + AT_BLOCK_LSN) && same_u32(a + LUMEVIQO_SUPERBLOCK_MAJOR, p + AT_MAJOR)
+             && same_u16(a + LUMEVIQO_SUPERBLOCK_A, p + AT_A) && same_u16(a + LUMEVIQO_SUPERBLOCK_B, p + AT_B)
+             && same_u32(a + LUMEVIQO_SUPERBLOCK_MAGIC, p + AT_MAGIC) && same_u32(a + LUMEVIQO_SUPERBLOCK_PAGE_HINT, p + AT_PAGE_HINT)
+             && a[LUMEVIQO_SUPERBLOCK_MARKER] <= 1, "the superblock's fields are the page's");
 }
 
 static void check_accepted(const Outcome *o) {
@@ -464,7 +547,7 @@ static void check_accepted(const Outcome *o) {
     case INTEGRITY: break;
     case SUPERBLOCK:
     case CHECKED: check_superblock(a); break;
-    case SCAN: check_shifted(call.held[PAGE], o->held[SHIFTED], a + 40, 0); break;
+    case SCAN: check_shifted(call.held[PAGE], o->held[SHIFTED], a + LUMEVIQO_SCAN_FITS, 0); break;
     case REPLACE: check_replacement(o); break;
     case PARSE: check_parse(a); break;
     case COUNT: check_rows(a); break;
@@ -488,16 +571,19 @@ static void check(const Outcome *o) {
     const uint8_t *a = o->held[ANSWER];
     uint64_t value = 0;
     int number = decided(&value);
-    answers[call.function][number < 0 ? 17 : a[0]]++;
+    uint8_t given = a[LUMEVIQO_ANSWER_NUMBER];
     must(o->returned == (number < 0 ? 0 : functions[call.function].layout), "the length of the layout is returned, or 0");
     if (number < 0) {
         must_stay_all(o, 0);
+        answers[call.function][NO_ANSWER]++;
         return;
     }
     check_answer_part(a);
-    must(number == 0 || (a[0] == number && number_at(a + 8, 8) == value), "a wrong length or sector is answered with it");
-    must(number != 0 || a[0] == 0 || a[0] > 2, "right lengths are taken");
-    if (a[0] == LUMEVIQO_ACCEPTED)
+    answers[call.function][given]++;
+    must(number == LUMEVIQO_ACCEPTED || (given == number && u64_at(a + LUMEVIQO_ANSWER_VALUES) == value),
+         "a wrong length or sector is answered with it");
+    must(number != LUMEVIQO_ACCEPTED || !(BUFFER_REFUSALS & OF(given)), "right lengths are taken");
+    if (given == LUMEVIQO_ACCEPTED)
         check_accepted(o);
     else
         check_refusal(o);
@@ -549,18 +635,18 @@ static size_t one_of(const size_t *choices, size_t n) { return choices[below(n)]
 
 static struct {
     uint64_t number;
-    uint8_t bv, steps[48]; /* laid out as fits */
-    uint8_t plain[LUMEVIQO_PAGE], stored[LUMEVIQO_PAGE], fits[LUMEVIQO_FITS], shifted[LUMEVIQO_SHIFTED];
+    uint8_t bv, steps[LUMEVIQO_FITS_LENGTH]; /* laid out as fits */
+    uint8_t plain[WHOLE], stored[WHOLE], fits[LUMEVIQO_FITS_LENGTH], shifted[DATA];
 } subject;
 
-static void seal(uint8_t *page) { put_number(page + 4092, 4, lumeviqo_crc32(page, 4092)); }
+static void seal(uint8_t *page) { put_u32(page + DATA + AT_CRC, lumeviqo_crc32(page, DATA + AT_CRC)); }
 
 /* The stored page of the plain one. */
 static void store(void) {
     call.number = subject.number;
     for (size_t k = 0; k < DATA; k++)
         subject.stored[k] = (uint8_t)(subject.plain[k] + shift_of(k, subject.steps) + subject.bv);
-    memcpy(subject.stored + DATA, subject.plain + DATA, LUMEVIQO_PAGE - DATA);
+    memcpy(subject.stored + DATA, subject.plain + DATA, TRAILER_LENGTH);
     seal(subject.stored);
 }
 
@@ -568,27 +654,27 @@ static void store(void) {
 static void summarize(void) {
     call.number = subject.number;
     scan_anew(subject.stored);
-    memcpy(subject.fits, fresh.held[ANSWER] + 40, LUMEVIQO_FITS);
+    memcpy(subject.fits, fresh.held[ANSWER] + LUMEVIQO_SCAN_FITS, LUMEVIQO_FITS_LENGTH);
     memcpy(subject.shifted, fresh.held[SHIFTED], DATA);
 }
 
 /* A count, a gap to the slots, and slots that fall, now and then by nothing, or the last of them into the directory. */
 static void write_directory(size_t count) {
     size_t at = below(one_in(8) ? LIMIT + 2 : 0x200), offset = DATA - below(8), slots = count == 0 ? 4 + below(20) : count;
-    put_number(subject.plain + at, 2, count);
+    put_u16(subject.plain + at, count);
     at += ONE_OF(4, 6);
-    for (size_t k = 0; k < slots; k++, at += 2) {
+    for (size_t k = 0; k < slots; k++, at += LUMEVIQO_SLOT_LENGTH) {
         bool deleted = k > 0 && one_in(8);
         size_t fall = one_in(200) ? 0 : 1 + below((DATA - LIMIT) / (slots + 1));
         offset = deleted || offset <= fall ? offset : offset - fall;
-        put_number(subject.plain + at, 2, deleted ? 0 : offset);
+        put_u16(subject.plain + at, deleted ? 0 : offset);
     }
     if (one_in(5))
-        put_number(subject.plain + at - 2, 2, at - 1 - below(2 * slots));
+        put_u16(subject.plain + at - LUMEVIQO_SLOT_LENGTH, at - 1 - below(LUMEVIQO_SLOT_LENGTH * slots));
 }
 
 static void fill_sector(size_t s) {
-    uint8_t *part = subject.plain + 512 * s;
+    uint8_t *part = subject.plain + SECTOR * s;
     size_t n = sector_length(s), kind = below(8);
     memset(part, kind == 0 ? (int)below(256) : 0, n);
     if (kind == 1)
@@ -607,8 +693,8 @@ static void damage(uint8_t *bytes, size_t length) {
 }
 
 static void put_superblock(uint8_t *page) {
-    memcpy(page + below(LUMEVIQO_PAGE - 33 + 1), "SAP SE, Copyright (c)2015 17.0.4.", 33);
-    put_number(page + 0x14, 4, 0xDA7ABA5E);
+    memcpy(page + below(WHOLE - strlen(MARKER) + 1), MARKER, strlen(MARKER));
+    put_u32(page + AT_MAGIC, MAGIC);
     seal(page);
 }
 
@@ -618,30 +704,30 @@ static void make_subject(void) {
     subject.number = one_in(4) ? next() : one_in(4) ? UINT64_MAX - below(20) : below(600);
     subject.bv = (uint8_t)next();
     noise(subject.steps, sizeof subject.steps);
-    memset(trailer, 0, 16);
-    for (size_t s = 0; s < 8; s++)
+    memset(trailer, 0, TRAILER_LENGTH);
+    for (size_t s = 0; s < SECTORS; s++)
         fill_sector(s);
     for (size_t times = one_in(4) ? 0 : one_in(6) ? 2 : 1; times > 0; times--)
         write_directory(rows);
-    trailer[0] = (uint8_t)rows;
-    trailer[1] = (uint8_t)next();
-    trailer[2] = (uint8_t)(one_in(4) ? next() : (uint64_t)"EAMHC@Ie"[below(8)]);
-    put_number(trailer + 4, 4, next());
+    trailer[AT_ROW_COUNT] = (uint8_t)rows;
+    trailer[AT_ROW_COUNT + 1] = (uint8_t)next();
+    trailer[AT_TYPE] = (uint8_t)(one_in(4) ? next() : (uint64_t)"EAMHC@Ie"[below(8)]);
+    put_u32(trailer + AT_LSN, next());
     if (one_in(16)) {
         uint8_t value = (uint8_t)next();
-        trailer[ONE_OF(3, 8, 9, 10, 11)] = value;
+        trailer[ONE_OF(AT_RESERVED, AT_RESERVED_WORD, AT_RESERVED_WORD + 1, AT_RESERVED_WORD + 2, AT_RESERVED_WORD + 3)] = value;
     }
     store();
     if (one_in(3))
-        damage(subject.stored, LUMEVIQO_PAGE);
+        damage(subject.stored, WHOLE);
     if (one_in(30))
-        noise(subject.stored, LUMEVIQO_PAGE);
+        noise(subject.stored, WHOLE);
     if (!one_in(8))
         seal(subject.stored);
     if (one_in(16))
         put_superblock(subject.stored);
     if (one_in(30))
-        memset(subject.stored, 0, LUMEVIQO_PAGE);
+        memset(subject.stored, 0, WHOLE);
     summarize();
 }
 
@@ -650,9 +736,9 @@ static void make_subject(void) {
 static size_t right_length(int role) {
     switch (role) {
     case PAGE:
-    case OUT: return LUMEVIQO_PAGE;
-    case FITS: return LUMEVIQO_FITS;
-    case SHIFTED: return LUMEVIQO_SHIFTED;
+    case OUT: return WHOLE;
+    case FITS: return LUMEVIQO_FITS_LENGTH;
+    case SHIFTED: return DATA;
     case ANCHORS: return 2;
     case BYTES: return sector_length(call.sector);
     default: return functions[call.function].layout;
@@ -665,29 +751,30 @@ static void right_call(int function) {
     call = (Call){.function = function, .number = subject.number, .t = LUMEVIQO_MIN_TRAILER_COUNT, .bv = subject.bv, .own_summary = true};
     for (int role = 0; role < ROLES; role++)
         call.length[role] = right_length(role);
-    memcpy(call.held[PAGE], plain ? subject.plain : subject.stored, LUMEVIQO_PAGE);
-    memcpy(call.held[FITS], subject.fits, LUMEVIQO_FITS);
-    memcpy(call.held[SHIFTED], subject.shifted, LUMEVIQO_SHIFTED);
-    memcpy(call.held[BYTES], subject.stored + 512, 512);
+    memcpy(call.held[PAGE], plain ? subject.plain : subject.stored, WHOLE);
+    memcpy(call.held[FITS], subject.fits, LUMEVIQO_FITS_LENGTH);
+    memcpy(call.held[SHIFTED], subject.shifted, DATA);
+    memcpy(call.held[BYTES], subject.stored + SECTOR, SECTOR);
 }
 
 /* A page that every function accepts: bv is not among the anchors, which are zeros, so that a search must read them all. */
 static void make_good_subject(void) {
     subject.number = 77;
     subject.bv = 0x5A;
-    for (size_t s = 0; s < 8; s++)
-        subject.steps[6 * s] = (uint8_t)(31 * s + 3);
-    static const uint16_t slots[5] = {0xF00, 0xE00, 0xD00, 0, 0xC00};
-    subject.plain[0x40] = subject.plain[DATA] = 5;
-    for (size_t k = 0; k < 5; k++)
-        put_number(subject.plain + 0x44 + 2 * k, 2, slots[k]);
-    subject.plain[DATA + 2] = 'E';
+    for (size_t s = 0; s < SECTORS; s++)
+        subject.steps[fit_at(s) + LUMEVIQO_FIT_STEP] = (uint8_t)(31 * s + 3);
+    enum { COUNT_AT = 0x40, SLOTS_AT = COUNT_AT + 4, SLOTS = 5 };
+    static const uint16_t slots[SLOTS] = {0xF00, 0xE00, 0xD00, 0, 0xC00};
+    subject.plain[COUNT_AT] = subject.plain[DATA + AT_ROW_COUNT] = SLOTS;
+    for (size_t k = 0; k < SLOTS; k++)
+        put_u16(subject.plain + SLOTS_AT + LUMEVIQO_SLOT_LENGTH * k, slots[k]);
+    subject.plain[DATA + AT_TYPE] = 'E';
     store();
     summarize();
 }
 
 static void try_length(int function, int role, size_t length) {
-    static uint8_t expected[LUMEVIQO_PARSE];
+    static uint8_t expected[LUMEVIQO_PARSE_LENGTH]; /* the longest layout */
     size_t layout = functions[function].layout;
     uint64_t value;
     right_call(function);
@@ -695,7 +782,7 @@ static void try_length(int function, int role, size_t length) {
         put_superblock(call.held[PAGE]);
     if (function != CRC32) {
         run(true, &at_end);
-        must(at_end.returned == layout && at_end.held[ANSWER][0] == LUMEVIQO_ACCEPTED, "the call with right lengths is accepted");
+        must(at_end.returned == layout && at_end.held[ANSWER][LUMEVIQO_ANSWER_NUMBER] == LUMEVIQO_ACCEPTED, "the call with right lengths is accepted");
         memcpy(expected, at_end.held[ANSWER], layout);
     }
     call.length[role] = length;
@@ -723,12 +810,16 @@ static void try_lengths(void) {
     printf("lengths: %zu buffers of %d functions, each with 0, one short, one long, 2^32\n", pairs, FUNCTIONS);
 }
 
+#define ABOUT(n) (n) - 1, (n), (n) + 1
+
 static size_t strange_length(size_t right) {
     switch (below(6)) {
     case 0: return 0;
     case 1: return right - 1;
     case 2: return right + 1;
-    case 3: return ONE_OF(1, 39, 40, 41, 47, 48, 49, 495, 496, 497, 511, 512, 513, 4079, 4080, 4081, 4095, 4096, 4097, 8192, ROOM);
+    case 3:
+        return ONE_OF(1, ABOUT(LUMEVIQO_ANSWER_LENGTH), ABOUT(LUMEVIQO_FITS_LENGTH), ABOUT(LUMEVIQO_LAST_SECTOR_LENGTH), ABOUT(SECTOR),
+                      ABOUT(DATA), ABOUT(WHOLE), 2 * WHOLE, ROOM);
     default: return below(ROOM + 1);
     }
 }
@@ -741,43 +832,44 @@ static void alienate(int role) {
 }
 
 static void random_call(void) {
+    enum { K = LUMEVIQO_LENIENT_KEYSTREAM, D = LUMEVIQO_LENIENT_DIRECTORY, I = LUMEVIQO_LENIENT_INTEGRITY, SOME_ANCHORS = 512 };
     right_call((int)below(FUNCTIONS));
     unsigned lent = functions[call.function].lent;
-    call.leniency = (uint8_t)(one_in(4) ? next() : ONE_OF(0, 0, 1, 2, 4, 5, 7));
+    call.leniency = (uint8_t)(one_in(4) ? next() : ONE_OF(LUMEVIQO_STRICT, LUMEVIQO_STRICT, K, D, I, K | I, K | D | I));
     call.t = (uint8_t)(one_in(2) ? LUMEVIQO_MIN_TRAILER_COUNT : next());
     call.bv = (uint8_t)(one_in(3) ? next() : subject.bv);
-    call.sector = one_in(8) ? ONE_OF(8, 255, (size_t)1 << 32, SIZE_MAX) : below(8);
-    call.row = one_in(8) ? ONE_OF(384, 65536, (size_t)1 << 32, SIZE_MAX) : below(one_in(2) ? 4 : 70);
+    call.sector = one_in(8) ? ONE_OF(SECTORS, 255, (size_t)1 << 32, SIZE_MAX) : below(SECTORS);
+    call.row = one_in(8) ? ONE_OF(LUMEVIQO_MOST_SLOTS, 65536, (size_t)1 << 32, SIZE_MAX) : below(one_in(2) ? 4 : 70);
     if (one_in(16))
         call.number = next();
     if (one_in(8) && call.function != CRC32)
-        memcpy(call.held[PAGE], one_in(2) ? subject.plain : subject.stored, LUMEVIQO_PAGE);
-    noise(call.held[OUT], LUMEVIQO_PAGE);
-    noise(call.held[ANSWER], LUMEVIQO_PARSE + 8);
-    noise(call.held[ANCHORS], 512);
+        memcpy(call.held[PAGE], one_in(2) ? subject.plain : subject.stored, WHOLE);
+    noise(call.held[OUT], WHOLE);
+    noise(call.held[ANSWER], LUMEVIQO_PARSE_LENGTH + 8);
+    noise(call.held[ANCHORS], SOME_ANCHORS);
     call.held[ANCHORS][0] = subject.bv;
     call.length[ANCHORS] = one_in(3) ? below(ROOM) : below(3);
     call.length[BYTES] = right_length(BYTES);
-    memcpy(call.held[BYTES], subject.stored + 512 * below(7), 512);
+    memcpy(call.held[BYTES], subject.stored + SECTOR * below(SECTORS - 1), SECTOR);
     for (int role = 0; role < ANSWER; role++)
         if (one_in(6) && role != ANCHORS)
             alienate(role);
     if (call.function == SCAN)
-        noise(call.held[SHIFTED], LUMEVIQO_SHIFTED);
+        noise(call.held[SHIFTED], DATA);
     for (int role = 0; role < ROLES; role++)
         if (lent & OF(role) && one_in(20))
             call.length[role] = strange_length(right_length(role));
-    call.own_summary = call.number == subject.number && memcmp(call.held[PAGE], subject.stored, LUMEVIQO_PAGE) == 0
-                       && memcmp(call.held[FITS], subject.fits, LUMEVIQO_FITS) == 0 && memcmp(call.held[SHIFTED], subject.shifted, DATA) == 0;
+    call.own_summary = call.number == subject.number && memcmp(call.held[PAGE], subject.stored, WHOLE) == 0
+                       && memcmp(call.held[FITS], subject.fits, LUMEVIQO_FITS_LENGTH) == 0 && memcmp(call.held[SHIFTED], subject.shifted, DATA) == 0;
 }
 
 static void tell_counts(void) {
     for (int f = 0; f < FUNCTIONS; f++) {
         printf("%-24s", functions[f].name);
-        for (int n = 0; n < 17; n++)
+        for (int n = 0; n < ANSWERS; n++)
             if (answers[f][n] > 0)
                 printf("  %d: %" PRIu64, n, answers[f][n]);
-        printf("  none: %" PRIu64 "\n", answers[f][17]);
+        printf("  none: %" PRIu64 "\n", answers[f][NO_ANSWER]);
     }
     printf("calls: %" PRIu64 "; the counts above are of inputs, each called with its buffers at both fences\n", calls_made);
 }
@@ -803,6 +895,10 @@ int main(int argc, char **argv) {
     bool random = argc == 4 && strcmp(argv[1], "random") == 0;
     if (!random && !(argc == 2 && strcmp(argv[1], "lengths") == 0)) {
         fprintf(stderr, "usage: calls lengths | calls random SECONDS SEED\n");
+        return EXIT_FAILURE;
+    }
+    if (lumeviqo_version() != LUMEVIQO_VERSION) {
+        fprintf(stderr, "the header is of version %d, the library of %" PRIu32 "\n", LUMEVIQO_VERSION, lumeviqo_version());
         return EXIT_FAILURE;
     }
     __sanitizer_set_death_callback(tell_fault);

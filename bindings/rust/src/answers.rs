@@ -1,11 +1,13 @@
 //! What the reader answers. The numbers behind these are in include/lumeviqo.h.
 use std::fmt;
 
+use crate::header::{LAST_SECTOR_LENGTH, PAGE_LENGTH, SECTOR_COUNT, SECTOR_LENGTH, SHIFTED_LENGTH};
+
 /// Values of bv, ascending.
 pub type AmbiguousCandidates = Vec<u8>;
 
 /// The fits of sectors 0 to 7.
-pub type Fits = [Fit; 8];
+pub type Fits = [Fit; SECTOR_COUNT];
 
 /// How well a sector's step is determined.
 #[derive(Debug, Clone, Copy, Default, PartialEq, Eq)]
@@ -116,8 +118,10 @@ pub enum Refusal {
 impl fmt::Display for Refusal {
     fn fmt(&self, f: &mut fmt::Formatter<'_>) -> fmt::Result {
         match self {
-            Refusal::WrongPageLength(n) => write!(f, "a page has 4096 bytes, and {n} were lent"),
-            Refusal::WrongBufferLength(n) => write!(f, "a lent buffer has {n} bytes: plaintext takes 4096, shifted bytes take 4080"),
+            Refusal::WrongPageLength(n) => write!(f, "a page has {PAGE_LENGTH} bytes, and {n} were lent"),
+            Refusal::WrongBufferLength(n) => {
+                write!(f, "a lent buffer has {n} bytes: plaintext takes {PAGE_LENGTH}, shifted bytes take {SHIFTED_LENGTH}")
+            }
             Refusal::BadCrc { page, stored, computed } => {
                 write!(f, "page {page}: its CRC is {computed:08x}, and {stored:08x} is stored: mend the damaged sector, or allow INTEGRITY")
             }
@@ -150,7 +154,10 @@ impl fmt::Display for Refusal {
             }
             Refusal::BadMagic(magic) => write!(f, "magic {magic:08x}, not da7aba5e: this is no page 0 of a SQL Anywhere 17 file"),
             Refusal::BadReplacement { sector } => {
-                write!(f, "sector {sector} does not take these bytes: sectors 0 to 6 take 512, sector 7 takes 496")
+                write!(
+                    f,
+                    "sector {sector} does not take these bytes: sectors 0 to 6 take {SECTOR_LENGTH}, sector 7 takes {LAST_SECTOR_LENGTH}"
+                )
             }
             Refusal::TooManyCandidates { page } => write!(f, "page {page}: more than eight values of bv to choose from"),
             Refusal::NoSuchRow(row) => write!(f, "there is no row {row}: rows are counted from 0"),

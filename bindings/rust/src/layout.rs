@@ -3,258 +3,284 @@ use crate::answers::{
     AmbiguousCandidates, Confidence, Decoding, Directory, Evidence, Fit, Fits, PageType, Parsed, Reason, Refusal, Source, Superblock,
     Trailer, Warning, WarningKind,
 };
+use crate::header as h;
 
-/// Where the data of a page ends, and so its last row.
-const DATA_END: u16 = 0xFF0;
+/// The bytes of an answer.
+struct Layout<'a>(&'a [u8]);
 
-/// Bytes of an answer, read from the front.
-struct Reader<'a> {
-    bytes: &'a [u8],
-}
-
-impl Reader<'_> {
-    fn take<const N: usize>(&mut self) -> [u8; N] {
-        let (head, rest) = self.bytes.split_first_chunk().expect("the layout has its length");
-        self.bytes = rest;
-        *head
+impl Layout<'_> {
+    fn bytes<const N: usize>(&self, at: usize) -> [u8; N] {
+        *self.0[at..].first_chunk().expect("the layout has its length")
     }
 
-    fn u8(&mut self) -> u8 {
-        self.take::<1>()[0]
+    fn u8(&self, at: usize) -> u8 {
+        self.0[at]
     }
 
-    fn flag(&mut self) -> bool {
-        self.u8() != 0
+    fn flag(&self, at: usize) -> bool {
+        self.u8(at) != 0
     }
 
-    fn u16(&mut self) -> u16 {
-        u16::from_le_bytes(self.take())
+    fn u16(&self, at: usize) -> u16 {
+        u16::from_le_bytes(self.bytes(at))
     }
 
-    fn u32(&mut self) -> u32 {
-        u32::from_le_bytes(self.take())
+    fn u32(&self, at: usize) -> u32 {
+        u32::from_le_bytes(self.bytes(at))
     }
 
-    fn u64(&mut self) -> u64 {
-        u64::from_le_bytes(self.take())
+    fn u64(&self, at: usize) -> u64 {
+        u64::from_le_bytes(self.bytes(at))
     }
 
-    fn fit(&mut self) -> Fit {
-        Fit { step: self.u8(), peak: self.u16(), runner_up: self.u16(), exact: self.flag() }
+    /// The number of an answer, a kind or a count, in a byte.
+    fn number(&self, at: usize) -> usize {
+        self.u8(at).into()
     }
 
-    fn fits(&mut self) -> Fits {
-        std::array::from_fn(|_| self.fit())
+    /// A count of two bytes.
+    fn count(&self, at: usize) -> usize {
+        self.u16(at).into()
     }
 
-    fn evidence(&mut self) -> Option<Evidence> {
-        let (number, a, b) = (self.u8(), self.u16(), self.u16());
-        Some(match number {
-            1 => Evidence::TrailerRowCount,
-            2 => Evidence::ExactSectors { count: a, dissent: b },
-            3 => Evidence::BlockAnchor,
-            4 => Evidence::ZeroMass { zeros: a, lead: b },
-            5 => Evidence::Unallocated,
-            _ => return None,
-        })
+    fn fit(&self, at: usize) -> Fit {
+        Fit {
+            step: self.u8(at + h::FIT_STEP),
+            peak: self.u16(at + h::FIT_PEAK),
+            runner_up: self.u16(at + h::FIT_RUNNER_UP),
+            exact: self.flag(at + h::FIT_EXACT),
+        }
     }
 
-    fn warning(&mut self, others: &AmbiguousCandidates) -> Option<Warning> {
-        let (number, page, values) = (self.u8(), self.u64(), [self.u64(), self.u64(), self.u64()]);
-        let kind = match number {
-            3 => WarningKind::BadCrc,
-            4 => WarningKind::BadTrailer,
-            5 => WarningKind::AmbiguousCalibration { chosen: values[0] as u8, others: others.clone() },
-            6 => WarningKind::UnverifiedKeystream { bv: values[0] as u8 },
-            7 => WarningKind::LowConfidenceSector { sector: values[0] as u8, peak: values[1] as u16, runner_up: values[2] as u16 },
-            8 => WarningKind::UnverifiedDirectory,
-            9 => WarningKind::UnknownPrelude,
-            10 => WarningKind::SlotDirectoryTruncated { found: values[0], expected: values[1] },
-            11 => WarningKind::AmbiguousSlotDirectory,
-            12 => WarningKind::SlotOffsetsInDirectory { dropped: values[0] },
-            _ => return None,
+    fn fits(&self, at: usize) -> Fits {
+        std::array::from_fn(|s| self.fit(at + h::FIT_LENGTH * s))
+    }
+
+    fn slots(&self, at: usize, count: usize) -> impl Iterator<Item = u16> {
+        (0..count).map(move |k| self.u16(at + h::SLOT_LENGTH * k))
+    }
+
+    fn evidence(&self, at: usize) -> Evidence {
+        let [a, b] = [0, 1].map(|k| self.u16(at + h::EVIDENCE_VALUES + size_of::<u16>() * k));
+        match self.number(at + h::EVIDENCE_NUMBER) {
+            h::EVIDENT_TRAILER_ROW_COUNT => Evidence::TrailerRowCount,
+            h::EVIDENT_EXACT_SECTORS => Evidence::ExactSectors { count: a, dissent: b },
+            h::EVIDENT_BLOCK_ANCHOR => Evidence::BlockAnchor,
+            h::EVIDENT_ZERO_MASS => Evidence::ZeroMass { zeros: a, lead: b },
+            h::EVIDENT_UNALLOCATED => Evidence::Unallocated,
+            n => unreachable!("no evidence has the number {n}"),
+        }
+    }
+
+    fn warning(&self, at: usize, others: &AmbiguousCandidates) -> Warning {
+        let v: [u64; h::MOST_WARNING_VALUES] = self.values(at + h::WARNING_VALUES);
+        let kind = match self.number(at + h::WARNING_NUMBER) {
+            h::WARNED_BAD_CRC => WarningKind::BadCrc,
+            h::WARNED_BAD_TRAILER => WarningKind::BadTrailer,
+            h::WARNED_AMBIGUOUS_CALIBRATION => WarningKind::AmbiguousCalibration { chosen: v[0] as u8, others: others.clone() },
+            h::WARNED_UNVERIFIED_KEYSTREAM => WarningKind::UnverifiedKeystream { bv: v[0] as u8 },
+            h::WARNED_LOW_CONFIDENCE_SECTOR => {
+                WarningKind::LowConfidenceSector { sector: v[0] as u8, peak: v[1] as u16, runner_up: v[2] as u16 }
+            }
+            h::WARNED_UNVERIFIED_DIRECTORY => WarningKind::UnverifiedDirectory,
+            h::WARNED_UNKNOWN_PRELUDE => WarningKind::UnknownPrelude,
+            h::WARNED_SLOT_DIRECTORY_TRUNCATED => WarningKind::SlotDirectoryTruncated { found: v[0], expected: v[1] },
+            h::WARNED_AMBIGUOUS_SLOT_DIRECTORY => WarningKind::AmbiguousSlotDirectory,
+            h::WARNED_SLOT_OFFSETS_IN_DIRECTORY => WarningKind::SlotOffsetsInDirectory { dropped: v[0] },
+            n => unreachable!("no warning has the number {n}"),
         };
-        Some(Warning { page, kind })
+        Warning { page: self.u64(at + h::WARNING_PAGE), kind }
     }
 
-    fn warnings(&mut self, len: usize, room: usize, others: &AmbiguousCandidates) -> Vec<Warning> {
-        let all: Vec<_> = (0..room).map(|_| self.warning(others)).collect();
-        all.into_iter().take(len).flatten().collect()
+    fn warnings(&self, at: usize, count: usize, others: &AmbiguousCandidates) -> Vec<Warning> {
+        (0..count).map(|k| self.warning(at + h::WARNING_LENGTH * k, others)).collect()
     }
 
-    /// The answer part: nothing where accepted. The candidates of answer 5 stand right behind it in a decoding.
-    fn answer(&mut self) -> Result<(), Refusal> {
-        let number = self.u8();
-        let count = self.u8();
-        self.take::<6>();
-        let v: [u64; 4] = std::array::from_fn(|_| self.u64());
-        debug_assert!(v.iter().skip(count as usize).all(|&v| v == 0));
-        Err(match number {
-            0 => return Ok(()),
-            1 => Refusal::WrongPageLength(v[0] as usize),
-            2 => Refusal::WrongBufferLength(v[0] as usize),
-            3 => Refusal::BadCrc { page: v[0], stored: v[1] as u32, computed: v[2] as u32 },
-            4 => Refusal::BadTrailer { page: v[0] },
-            5 => Refusal::AmbiguousCalibration { page: v[0], candidates: self.group() },
-            6 => Refusal::KeystreamUnverified { page: v[0], bv: v[1] as u8 },
-            7 => Refusal::LowConfidenceKeystream { page: v[0], sector: v[1] as u8, peak: v[2] as u16, runner_up: v[3] as u16 },
-            8 => Refusal::NoSlotDirectory { page: v[0], reason: reason(v[1]) },
-            9 => Refusal::UnknownPrelude { page: v[0] },
-            10 => Refusal::SlotDirectoryTruncated { page: v[0], found: v[1], expected: v[2], stop: v[3] },
-            11 => Refusal::AmbiguousSlotDirectory { page: v[0] },
-            12 => Refusal::SlotOffsetInDirectory { page: v[0], offset: v[1], end: v[2] },
-            13 => Refusal::BadMagic(v[0] as u32),
-            14 => Refusal::BadReplacement { sector: v[0] as usize },
-            15 => Refusal::TooManyCandidates { page: v[0] },
-            16 => Refusal::NoSuchRow(v[0] as usize),
+    fn values<const N: usize>(&self, at: usize) -> [u64; N] {
+        std::array::from_fn(|k| self.u64(at + h::VALUE_LENGTH * k))
+    }
+
+    /// The answer part: nothing where accepted. Answer 5 is a decoding's, which has the candidates.
+    fn answer(&self) -> Result<(), Refusal> {
+        let v: [u64; h::MOST_ANSWER_VALUES] = self.values(h::ANSWER_VALUES);
+        debug_assert!(v.iter().skip(self.number(h::ANSWER_VALUE_COUNT)).all(|&v| v == 0));
+        Err(match self.number(h::ANSWER_NUMBER) {
+            h::ACCEPTED => return Ok(()),
+            h::WRONG_PAGE_LENGTH => Refusal::WrongPageLength(v[0] as usize),
+            h::WRONG_BUFFER_LENGTH => Refusal::WrongBufferLength(v[0] as usize),
+            h::BAD_CRC => Refusal::BadCrc { page: v[0], stored: v[1] as u32, computed: v[2] as u32 },
+            h::BAD_TRAILER => Refusal::BadTrailer { page: v[0] },
+            h::AMBIGUOUS_CALIBRATION => Refusal::AmbiguousCalibration { page: v[0], candidates: self.candidates() },
+            h::KEYSTREAM_UNVERIFIED => Refusal::KeystreamUnverified { page: v[0], bv: v[1] as u8 },
+            h::LOW_CONFIDENCE_KEYSTREAM => {
+                Refusal::LowConfidenceKeystream { page: v[0], sector: v[1] as u8, peak: v[2] as u16, runner_up: v[3] as u16 }
+            }
+            h::NO_SLOT_DIRECTORY => Refusal::NoSlotDirectory { page: v[0], reason: reason(v[1] as usize) },
+            h::UNKNOWN_PRELUDE => Refusal::UnknownPrelude { page: v[0] },
+            h::SLOT_DIRECTORY_TRUNCATED => Refusal::SlotDirectoryTruncated { page: v[0], found: v[1], expected: v[2], stop: v[3] },
+            h::AMBIGUOUS_SLOT_DIRECTORY => Refusal::AmbiguousSlotDirectory { page: v[0] },
+            h::SLOT_OFFSET_IN_DIRECTORY => Refusal::SlotOffsetInDirectory { page: v[0], offset: v[1], end: v[2] },
+            h::BAD_MAGIC => Refusal::BadMagic(v[0] as u32),
+            h::BAD_REPLACEMENT => Refusal::BadReplacement { sector: v[0] as usize },
+            h::TOO_MANY_CANDIDATES => Refusal::TooManyCandidates { page: v[0] },
+            h::NO_SUCH_ROW => Refusal::NoSuchRow(v[0] as usize),
             n => unreachable!("no answer has the number {n}"),
         })
     }
 
-    fn group(&mut self) -> AmbiguousCandidates {
-        let len = self.u8() as usize;
-        let items: [u8; 8] = self.take();
-        items[..len.min(8)].to_vec()
+    fn candidates(&self) -> AmbiguousCandidates {
+        self.0[h::DECODING_CANDIDATES..][..self.number(h::DECODING_CANDIDATE_COUNT)].to_vec()
     }
 }
 
-fn reason(number: u64) -> Reason {
+fn reason(number: usize) -> Reason {
     match number {
-        1 => Reason::CountBelowFour,
-        2 => Reason::FewerThanEightLive,
-        _ => Reason::Unconfirmed,
+        h::REASON_COUNT_BELOW_FOUR => Reason::CountBelowFour,
+        h::REASON_FEWER_THAN_EIGHT_LIVE => Reason::FewerThanEightLive,
+        h::REASON_UNCONFIRMED => Reason::Unconfirmed,
+        n => unreachable!("no reason has the number {n}"),
     }
 }
 
-fn source(number: u8) -> Source {
+fn source(number: usize) -> Source {
     match number {
-        1 => Source::TrailerRowCount,
-        2 => Source::ExactSectors,
-        3 => Source::Histogram,
-        4 => Source::Supplied,
-        5 => Source::Corroborated,
-        6 => Source::Unallocated,
+        h::SOURCE_TRAILER_ROW_COUNT => Source::TrailerRowCount,
+        h::SOURCE_EXACT_SECTORS => Source::ExactSectors,
+        h::SOURCE_HISTOGRAM => Source::Histogram,
+        h::SOURCE_SUPPLIED => Source::Supplied,
+        h::SOURCE_CORROBORATED => Source::Corroborated,
+        h::SOURCE_UNALLOCATED => Source::Unallocated,
         n => unreachable!("no source has the number {n}"),
     }
 }
 
-fn confidence(number: u8) -> Confidence {
+fn confidence(number: usize) -> Confidence {
     match number {
-        1 => Confidence::Unallocated,
-        2 => Confidence::Unverified,
-        3 => Confidence::Corroborated,
-        4 => Confidence::Calibrated,
-        5 => Confidence::Verified,
+        h::CONFIDENCE_UNALLOCATED => Confidence::Unallocated,
+        h::CONFIDENCE_UNVERIFIED => Confidence::Unverified,
+        h::CONFIDENCE_CORROBORATED => Confidence::Corroborated,
+        h::CONFIDENCE_CALIBRATED => Confidence::Calibrated,
+        h::CONFIDENCE_VERIFIED => Confidence::Verified,
         n => unreachable!("no confidence has the number {n}"),
     }
 }
 
+fn page_type(number: usize, byte: u8) -> PageType {
+    match number {
+        h::TYPE_EXTENT => PageType::Extent,
+        h::TYPE_ALLOC => PageType::Alloc,
+        h::TYPE_MAP => PageType::Map,
+        h::TYPE_HEADER => PageType::Header,
+        h::TYPE_CATALOG => PageType::Catalog,
+        h::TYPE_BOOTSTRAP => PageType::Bootstrap,
+        h::TYPE_INDEX => PageType::Index,
+        h::TYPE_OTHER => PageType::Other(byte),
+        n => unreachable!("no page type has the number {n}"),
+    }
+}
+
 pub fn integrity(bytes: &[u8]) -> Result<(), Refusal> {
-    Reader { bytes }.answer()
+    Layout(bytes).answer()
 }
 
 pub fn scan(bytes: &[u8]) -> Result<Fits, Refusal> {
-    let mut r = Reader { bytes };
-    r.answer()?;
-    Ok(r.fits())
+    let l = Layout(bytes);
+    l.answer()?;
+    Ok(l.fits(h::SCAN_FITS))
+}
+
+pub fn replacement(bytes: &[u8]) -> Result<Fits, Refusal> {
+    let l = Layout(bytes);
+    l.answer()?;
+    Ok(l.fits(h::REPLACEMENT_FITS))
 }
 
 pub fn decoding(bytes: &[u8]) -> Result<Decoding, Refusal> {
-    let mut r = Reader { bytes };
-    r.answer()?;
-    let others = r.group();
-    let bv = r.u8();
-    let source = source(r.u8());
-    let confidence = confidence(r.u8());
-    let count = r.u8() as usize;
-    let evidence: [Option<Evidence>; 4] = std::array::from_fn(|_| r.evidence());
-    let fits = r.fits();
-    let len = r.u8() as usize;
+    let l = Layout(bytes);
+    l.answer()?;
+    let source = source(l.number(h::DECODING_SOURCE));
+    let evidence = (0..l.number(h::DECODING_EVIDENCE_COUNT)).map(|k| l.evidence(h::DECODING_EVIDENCE + h::EVIDENCE_LENGTH * k));
     Ok(Decoding {
-        bv: (source != Source::Unallocated).then_some(bv),
+        bv: (source != Source::Unallocated).then_some(l.u8(h::DECODING_BV)),
         source,
-        confidence,
-        evidence: evidence.into_iter().take(count).flatten().collect(),
-        fits,
-        warnings: r.warnings(len, 10, &others),
+        confidence: confidence(l.number(h::DECODING_CONFIDENCE)),
+        evidence: evidence.collect(),
+        fits: l.fits(h::DECODING_FITS),
+        warnings: l.warnings(h::DECODING_WARNINGS, l.number(h::DECODING_WARNING_COUNT), &l.candidates()),
     })
 }
 
 pub fn parsed(bytes: &[u8]) -> Result<Parsed, Refusal> {
-    let mut r = Reader { bytes };
-    r.answer()?;
-    let found = r.flag();
-    let (start, end, count) = (r.u16(), r.u16(), r.u16() as usize);
-    let (declared, number) = (r.flag(), r.u16());
-    let slots: [u16; 384] = std::array::from_fn(|_| r.u16());
-    let len = r.u16() as usize;
-    let warnings = r.warnings(len, 3, &Vec::new());
-    let slots = slots.into_iter().take(count).collect();
-    Ok(Parsed { directory: found.then_some(Directory { start, end, slots, declared: declared.then_some(number) }), warnings })
+    let l = Layout(bytes);
+    l.answer()?;
+    let directory = l.flag(h::PARSE_FOUND).then(|| Directory {
+        start: l.u16(h::PARSE_START),
+        end: l.u16(h::PARSE_END),
+        slots: l.slots(h::PARSE_SLOTS, l.count(h::PARSE_SLOT_COUNT)).collect(),
+        declared: l.flag(h::PARSE_DECLARED).then_some(l.u16(h::PARSE_DECLARED_COUNT)),
+    });
+    Ok(Parsed { directory, warnings: l.warnings(h::PARSE_WARNINGS, l.count(h::PARSE_WARNING_COUNT), &Vec::new()) })
 }
 
 pub fn row_count(bytes: &[u8]) -> Result<usize, Refusal> {
-    let mut r = Reader { bytes };
-    r.answer()?;
-    Ok(r.u16() as usize)
+    let l = Layout(bytes);
+    l.answer()?;
+    Ok(l.count(h::ROW_COUNT_ROWS))
 }
 
 pub fn row(bytes: &[u8]) -> Result<(u16, u16), Refusal> {
-    let mut r = Reader { bytes };
-    r.answer()?;
-    Ok((r.u16(), r.u16()))
+    let l = Layout(bytes);
+    l.answer()?;
+    Ok((l.u16(h::ROW_START), l.u16(h::ROW_END)))
 }
 
-/// Where each row starts, and behind them where the last one ends.
+/// Where each row starts, and behind them where the last one ends: with the data of the page.
 pub fn row_bounds(bytes: &[u8]) -> Result<Vec<u16>, Refusal> {
-    let mut r = Reader { bytes };
-    r.answer()?;
-    let count = r.u16();
-    Ok((0..count).map(|_| r.u16()).chain([DATA_END]).collect())
+    let l = Layout(bytes);
+    l.answer()?;
+    Ok(l.slots(h::ROWS_STARTS, l.count(h::ROWS_COUNT)).chain([h::SHIFTED_LENGTH as u16]).collect())
 }
 
 pub fn trailer(bytes: &[u8]) -> Result<Trailer, Refusal> {
-    let mut r = Reader { bytes };
-    r.answer()?;
-    let (row_count, byte, case) = (r.u8(), r.u8(), r.u8());
-    let page_type = match case {
-        1 => PageType::Extent,
-        2 => PageType::Alloc,
-        3 => PageType::Map,
-        4 => PageType::Header,
-        5 => PageType::Catalog,
-        6 => PageType::Bootstrap,
-        7 => PageType::Index,
-        _ => PageType::Other(byte),
-    };
+    let l = Layout(bytes);
+    l.answer()?;
+    let byte = l.u8(h::TRAILER_TYPE_BYTE);
+    let page_type = page_type(l.number(h::TRAILER_TYPE), byte);
     debug_assert_eq!(page_type.as_byte(), byte);
-    Ok(Trailer { row_count, page_type, case_variant: r.flag(), lsn: r.u32(), crc: r.u32(), reserved_zero: r.flag() })
+    Ok(Trailer {
+        row_count: l.u8(h::TRAILER_ROW_COUNT),
+        page_type,
+        case_variant: l.flag(h::TRAILER_CASE_VARIANT),
+        lsn: l.u32(h::TRAILER_LSN),
+        crc: l.u32(h::TRAILER_CRC),
+        reserved_zero: l.flag(h::TRAILER_RESERVED_ZERO),
+    })
 }
 
 pub fn superblock(bytes: &[u8]) -> Result<Superblock, Refusal> {
-    let mut r = Reader { bytes };
-    r.answer()?;
+    let l = Layout(bytes);
+    l.answer()?;
     Ok(Superblock {
-        flags: r.u8(),
-        variant_bits: r.u8(),
-        lsn: r.u32(),
-        major: r.u32(),
-        a: r.u16(),
-        b: r.u16(),
-        magic: r.u32(),
-        page_hint: r.u32(),
-        marker: r.flag(),
+        flags: l.u8(h::SUPERBLOCK_FLAGS),
+        variant_bits: l.u8(h::SUPERBLOCK_VARIANT_BITS),
+        lsn: l.u32(h::SUPERBLOCK_LSN),
+        major: l.u32(h::SUPERBLOCK_MAJOR),
+        a: l.u16(h::SUPERBLOCK_A),
+        b: l.u16(h::SUPERBLOCK_B),
+        magic: l.u32(h::SUPERBLOCK_MAGIC),
+        page_hint: l.u32(h::SUPERBLOCK_PAGE_HINT),
+        marker: l.flag(h::SUPERBLOCK_MARKER),
     })
 }
 
 /// Fits as they are lent.
-pub fn fits_bytes(fits: &Fits) -> [u8; 48] {
-    let mut bytes = [0; 48];
-    for (at, f) in bytes.chunks_exact_mut(6).zip(fits) {
-        at[0] = f.step;
-        at[1..3].copy_from_slice(&f.peak.to_le_bytes());
-        at[3..5].copy_from_slice(&f.runner_up.to_le_bytes());
-        at[5] = f.exact as u8;
+pub fn fits_bytes(fits: &Fits) -> [u8; h::FITS_LENGTH] {
+    let mut bytes = [0; h::FITS_LENGTH];
+    for (at, f) in bytes.chunks_exact_mut(h::FIT_LENGTH).zip(fits) {
+        at[h::FIT_STEP] = f.step;
+        at[h::FIT_PEAK..h::FIT_RUNNER_UP].copy_from_slice(&f.peak.to_le_bytes());
+        at[h::FIT_RUNNER_UP..h::FIT_EXACT].copy_from_slice(&f.runner_up.to_le_bytes());
+        at[h::FIT_EXACT] = f.exact as u8;
     }
     bytes
 }

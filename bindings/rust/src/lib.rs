@@ -18,26 +18,33 @@
 mod answers;
 mod layout;
 mod sys;
+mod version;
 
 pub use answers::*;
 
+/// The numbers of include/lumeviqo.h: versions, lengths, offsets in layouts, answers and kinds. `header::X` is LUMEVIQO_X there.
+#[allow(unused_parens)]
+pub mod header {
+    include!(concat!(env!("OUT_DIR"), "/header.rs"));
+}
+
 /// Bytes of a page.
-pub const PAGE: usize = 4096;
+pub const PAGE: usize = header::PAGE_LENGTH;
 /// Bytes of a page that are shifted: all but the trailer.
-pub const SHIFTED: usize = 4080;
+pub const SHIFTED: usize = header::SHIFTED_LENGTH;
 
 /// The checks that are relaxed: a sum of these bits. Other bits mean nothing.
 #[derive(Debug, Clone, Copy, Default, PartialEq, Eq)]
 pub struct Leniency(pub u8);
 
 impl Leniency {
-    pub const STRICT: Leniency = Leniency(0);
+    pub const STRICT: Leniency = Leniency(header::STRICT as u8);
     /// Take a bv that nothing confirms, and sectors whose step is in doubt.
-    pub const KEYSTREAM: Leniency = Leniency(1);
+    pub const KEYSTREAM: Leniency = Leniency(header::LENIENT_KEYSTREAM as u8);
     /// Take a slot directory that no prelude confirms.
-    pub const DIRECTORY: Leniency = Leniency(2);
+    pub const DIRECTORY: Leniency = Leniency(header::LENIENT_DIRECTORY as u8);
     /// Take pages that fail their CRC or trailer check.
-    pub const INTEGRITY: Leniency = Leniency(4);
+    pub const INTEGRITY: Leniency = Leniency(header::LENIENT_INTEGRITY as u8);
 }
 
 impl std::ops::BitOr for Leniency {
@@ -57,55 +64,58 @@ pub struct Options {
 
 impl Default for Options {
     fn default() -> Self {
-        Options { leniency: Leniency::STRICT, min_trailer_count: 4 }
+        Options { leniency: Leniency::STRICT, min_trailer_count: header::MIN_TRAILER_COUNT as u8 }
     }
 }
 
 /// CRC-32 as ITU-T V.42 defines it.
 pub fn crc32(bytes: &[u8]) -> u32 {
+    version::check();
     unsafe { sys::lumeviqo_crc32(bytes.as_ptr(), bytes.len()) }
 }
 
 /// The trailer record of a page.
 pub fn trailer(page: &[u8]) -> Result<Trailer, Refusal> {
-    let answer = asked::<{ sys::TRAILER }>(|a, n| unsafe { sys::lumeviqo_trailer(page.as_ptr(), page.len(), a, n) });
+    let answer = asked::<{ header::TRAILER_LENGTH }>(|a, n| unsafe { sys::lumeviqo_trailer(page.as_ptr(), page.len(), a, n) });
     layout::trailer(&answer)
 }
 
 /// Accepts an unallocated page, and one whose CRC and reserved bytes are right.
-pub fn integrity(number: u64, page: &[u8]) -> Result<(), Refusal> {
-    let answer = asked::<{ sys::INTEGRITY }>(|a, n| unsafe { sys::lumeviqo_integrity(number, page.as_ptr(), page.len(), a, n) });
+pub fn integrity(number: u64, stored: &[u8]) -> Result<(), Refusal> {
+    let answer =
+        asked::<{ header::INTEGRITY_LENGTH }>(|a, n| unsafe { sys::lumeviqo_integrity(number, stored.as_ptr(), stored.len(), a, n) });
     layout::integrity(&answer)
 }
 
 /// The fields of page 0, whatever its magic.
-pub fn superblock(page: &[u8]) -> Result<Superblock, Refusal> {
-    let answer = asked::<{ sys::SUPERBLOCK }>(|a, n| unsafe { sys::lumeviqo_superblock(page.as_ptr(), page.len(), a, n) });
+pub fn superblock(stored: &[u8]) -> Result<Superblock, Refusal> {
+    let answer = asked::<{ header::SUPERBLOCK_LENGTH }>(|a, n| unsafe { sys::lumeviqo_superblock(stored.as_ptr(), stored.len(), a, n) });
     layout::superblock(&answer)
 }
 
 /// The fields of page 0, if it has the magic of SQL Anywhere 17.
-pub fn superblock_checked(page: &[u8]) -> Result<Superblock, Refusal> {
-    let answer = asked::<{ sys::SUPERBLOCK }>(|a, n| unsafe { sys::lumeviqo_superblock_checked(page.as_ptr(), page.len(), a, n) });
+pub fn superblock_checked(stored: &[u8]) -> Result<Superblock, Refusal> {
+    let answer =
+        asked::<{ header::SUPERBLOCK_LENGTH }>(|a, n| unsafe { sys::lumeviqo_superblock_checked(stored.as_ptr(), stored.len(), a, n) });
     layout::superblock(&answer)
 }
 
 /// The fits of a stored page; its shifted bytes go to `shifted`.
-pub fn scan(number: u64, page: &[u8], shifted: &mut [u8]) -> Result<Fits, Refusal> {
-    let answer = asked::<{ sys::SCAN }>(|a, n| unsafe {
-        sys::lumeviqo_scan(number, page.as_ptr(), page.len(), shifted.as_mut_ptr(), shifted.len(), a, n)
+pub fn scan(number: u64, stored: &[u8], shifted: &mut [u8]) -> Result<Fits, Refusal> {
+    let answer = asked::<{ header::SCAN_LENGTH }>(|a, n| unsafe {
+        sys::lumeviqo_scan(number, stored.as_ptr(), stored.len(), shifted.as_mut_ptr(), shifted.len(), a, n)
     });
     layout::scan(&answer)
 }
 
 /// Puts new bytes into a sector of a stored page. The fits and the shifted bytes are then those of the new page.
-pub fn replace(number: u64, page: &mut [u8], shifted: &mut [u8], fits: &Fits, sector: usize, bytes: &[u8]) -> Result<Fits, Refusal> {
+pub fn replace(number: u64, stored: &mut [u8], shifted: &mut [u8], fits: &Fits, sector: usize, bytes: &[u8]) -> Result<Fits, Refusal> {
     let fits = layout::fits_bytes(fits);
-    let answer = asked::<{ sys::SCAN }>(|a, n| unsafe {
+    let answer = asked::<{ header::REPLACEMENT_LENGTH }>(|a, n| unsafe {
         sys::lumeviqo_replace(
             number,
-            page.as_mut_ptr(),
-            page.len(),
+            stored.as_mut_ptr(),
+            stored.len(),
             shifted.as_mut_ptr(),
             shifted.len(),
             fits.as_ptr(),
@@ -117,16 +127,16 @@ pub fn replace(number: u64, page: &mut [u8], shifted: &mut [u8], fits: &Fits, se
             n,
         )
     });
-    layout::scan(&answer)
+    layout::replacement(&answer)
 }
 
 /// Decodes a stored page; the plaintext goes to `out`. `anchors` are values of bv of other pages of the block.
-pub fn decode(number: u64, page: &[u8], anchors: &[u8], options: Options, out: &mut [u8]) -> Result<Decoding, Refusal> {
-    let answer = asked::<{ sys::DECODING }>(|a, n| unsafe {
+pub fn decode(number: u64, stored: &[u8], anchors: &[u8], options: Options, out: &mut [u8]) -> Result<Decoding, Refusal> {
+    let answer = asked::<{ header::DECODING_LENGTH }>(|a, n| unsafe {
         sys::lumeviqo_decode(
             number,
-            page.as_ptr(),
-            page.len(),
+            stored.as_ptr(),
+            stored.len(),
             anchors.as_ptr(),
             anchors.len(),
             options.leniency.0,
@@ -143,7 +153,7 @@ pub fn decode(number: u64, page: &[u8], anchors: &[u8], options: Options, out: &
 /// Decodes a stored page from its summary.
 pub fn decode_summary(
     number: u64,
-    page: &[u8],
+    stored: &[u8],
     fits: &Fits,
     shifted: &[u8],
     anchors: &[u8],
@@ -151,11 +161,11 @@ pub fn decode_summary(
     out: &mut [u8],
 ) -> Result<Decoding, Refusal> {
     let fits = layout::fits_bytes(fits);
-    let answer = asked::<{ sys::DECODING }>(|a, n| unsafe {
+    let answer = asked::<{ header::DECODING_LENGTH }>(|a, n| unsafe {
         sys::lumeviqo_decode_summary(
             number,
-            page.as_ptr(),
-            page.len(),
+            stored.as_ptr(),
+            stored.len(),
             fits.as_ptr(),
             fits.len(),
             shifted.as_ptr(),
@@ -174,12 +184,12 @@ pub fn decode_summary(
 }
 
 /// Decodes a stored page with a given bv, and no check of its CRC.
-pub fn decode_supplied(number: u64, page: &[u8], bv: u8, options: Options, out: &mut [u8]) -> Result<Decoding, Refusal> {
-    let answer = asked::<{ sys::DECODING }>(|a, n| unsafe {
+pub fn decode_supplied(number: u64, stored: &[u8], bv: u8, options: Options, out: &mut [u8]) -> Result<Decoding, Refusal> {
+    let answer = asked::<{ header::DECODING_LENGTH }>(|a, n| unsafe {
         sys::lumeviqo_decode_supplied(
             number,
-            page.as_ptr(),
-            page.len(),
+            stored.as_ptr(),
+            stored.len(),
             bv,
             options.leniency.0,
             options.min_trailer_count,
@@ -195,7 +205,7 @@ pub fn decode_supplied(number: u64, page: &[u8], bv: u8, options: Options, out: 
 /// The same from its summary.
 pub fn decode_supplied_summary(
     number: u64,
-    page: &[u8],
+    stored: &[u8],
     fits: &Fits,
     shifted: &[u8],
     bv: u8,
@@ -203,11 +213,11 @@ pub fn decode_supplied_summary(
     out: &mut [u8],
 ) -> Result<Decoding, Refusal> {
     let fits = layout::fits_bytes(fits);
-    let answer = asked::<{ sys::DECODING }>(|a, n| unsafe {
+    let answer = asked::<{ header::DECODING_LENGTH }>(|a, n| unsafe {
         sys::lumeviqo_decode_supplied_summary(
             number,
-            page.as_ptr(),
-            page.len(),
+            stored.as_ptr(),
+            stored.len(),
             fits.as_ptr(),
             fits.len(),
             shifted.as_ptr(),
@@ -226,27 +236,31 @@ pub fn decode_supplied_summary(
 
 /// The slot directory of a plain page.
 pub fn parse(number: u64, plain: &[u8], leniency: Leniency) -> Result<Parsed, Refusal> {
-    let answer = asked::<{ sys::PARSE }>(|a, n| unsafe { sys::lumeviqo_parse(number, plain.as_ptr(), plain.len(), leniency.0, a, n) });
+    let answer =
+        asked::<{ header::PARSE_LENGTH }>(|a, n| unsafe { sys::lumeviqo_parse(number, plain.as_ptr(), plain.len(), leniency.0, a, n) });
     layout::parsed(&answer)
 }
 
 /// How many rows a plain page has.
 pub fn row_count(number: u64, plain: &[u8], leniency: Leniency) -> Result<usize, Refusal> {
-    let answer =
-        asked::<{ sys::ROW_COUNT }>(|a, n| unsafe { sys::lumeviqo_row_count(number, plain.as_ptr(), plain.len(), leniency.0, a, n) });
+    let answer = asked::<{ header::ROW_COUNT_LENGTH }>(|a, n| unsafe {
+        sys::lumeviqo_row_count(number, plain.as_ptr(), plain.len(), leniency.0, a, n)
+    });
     layout::row_count(&answer)
 }
 
 /// A row of a plain page. Rows ascend by offset, and the first is row 0.
 pub fn row(number: u64, plain: &[u8], leniency: Leniency, row: usize) -> Result<Row<'_>, Refusal> {
-    let answer = asked::<{ sys::ROW }>(|a, n| unsafe { sys::lumeviqo_row(number, plain.as_ptr(), plain.len(), leniency.0, row, a, n) });
+    let answer =
+        asked::<{ header::ROW_LENGTH }>(|a, n| unsafe { sys::lumeviqo_row(number, plain.as_ptr(), plain.len(), leniency.0, row, a, n) });
     let (offset, end) = layout::row(&answer)?;
     Ok(row_from(plain, offset, end))
 }
 
 /// All rows of a plain page, found in one pass.
 pub fn rows(number: u64, plain: &[u8], leniency: Leniency) -> Result<Vec<Row<'_>>, Refusal> {
-    let answer = asked::<{ sys::ROWS }>(|a, n| unsafe { sys::lumeviqo_rows(number, plain.as_ptr(), plain.len(), leniency.0, a, n) });
+    let answer =
+        asked::<{ header::ROWS_LENGTH }>(|a, n| unsafe { sys::lumeviqo_rows(number, plain.as_ptr(), plain.len(), leniency.0, a, n) });
     Ok(layout::row_bounds(&answer)?.windows(2).map(|w| row_from(plain, w[0], w[1])).collect())
 }
 
@@ -256,6 +270,7 @@ fn row_from(plain: &[u8], offset: u16, end: u16) -> Row<'_> {
 
 /// The answer of a function that writes N bytes of it.
 fn asked<const N: usize>(ask: impl FnOnce(*mut u8, usize) -> usize) -> [u8; N] {
+    version::check();
     let mut answer = [0; N];
     let written = ask(answer.as_mut_ptr(), N);
     assert_eq!(written, N, "the library and this crate differ in a layout");

@@ -1,30 +1,22 @@
-//! The functions of include/lumeviqo.h, and the lengths of its layouts.
-
-pub const DECODING: usize = 452;
-pub const SCAN: usize = 88;
-pub const PARSE: usize = 919;
-pub const ROW_COUNT: usize = 42;
-pub const ROW: usize = 44;
-pub const ROWS: usize = 810;
-pub const TRAILER: usize = 53;
-pub const SUPERBLOCK: usize = 63;
-pub const INTEGRITY: usize = 40;
+//! The functions of include/lumeviqo.h.
 
 unsafe extern "C" {
+    pub fn lumeviqo_version() -> u32;
+
     pub fn lumeviqo_crc32(bytes: *const u8, bytes_length: usize) -> u32;
 
     pub fn lumeviqo_trailer(page: *const u8, page_length: usize, answer: *mut u8, answer_length: usize) -> usize;
 
-    pub fn lumeviqo_integrity(number: u64, page: *const u8, page_length: usize, answer: *mut u8, answer_length: usize) -> usize;
+    pub fn lumeviqo_integrity(number: u64, stored: *const u8, stored_length: usize, answer: *mut u8, answer_length: usize) -> usize;
 
-    pub fn lumeviqo_superblock(page: *const u8, page_length: usize, answer: *mut u8, answer_length: usize) -> usize;
+    pub fn lumeviqo_superblock(stored: *const u8, stored_length: usize, answer: *mut u8, answer_length: usize) -> usize;
 
-    pub fn lumeviqo_superblock_checked(page: *const u8, page_length: usize, answer: *mut u8, answer_length: usize) -> usize;
+    pub fn lumeviqo_superblock_checked(stored: *const u8, stored_length: usize, answer: *mut u8, answer_length: usize) -> usize;
 
     pub fn lumeviqo_scan(
         number: u64,
-        page: *const u8,
-        page_length: usize,
+        stored: *const u8,
+        stored_length: usize,
         shifted: *mut u8,
         shifted_length: usize,
         answer: *mut u8,
@@ -33,8 +25,8 @@ unsafe extern "C" {
 
     pub fn lumeviqo_replace(
         number: u64,
-        page: *mut u8,
-        page_length: usize,
+        stored: *mut u8,
+        stored_length: usize,
         shifted: *mut u8,
         shifted_length: usize,
         fits: *const u8,
@@ -48,8 +40,8 @@ unsafe extern "C" {
 
     pub fn lumeviqo_decode(
         number: u64,
-        page: *const u8,
-        page_length: usize,
+        stored: *const u8,
+        stored_length: usize,
         anchors: *const u8,
         anchors_length: usize,
         leniency: u8,
@@ -62,8 +54,8 @@ unsafe extern "C" {
 
     pub fn lumeviqo_decode_summary(
         number: u64,
-        page: *const u8,
-        page_length: usize,
+        stored: *const u8,
+        stored_length: usize,
         fits: *const u8,
         fits_length: usize,
         shifted: *const u8,
@@ -80,8 +72,8 @@ unsafe extern "C" {
 
     pub fn lumeviqo_decode_supplied(
         number: u64,
-        page: *const u8,
-        page_length: usize,
+        stored: *const u8,
+        stored_length: usize,
         bv: u8,
         leniency: u8,
         min_trailer_count: u8,
@@ -93,8 +85,8 @@ unsafe extern "C" {
 
     pub fn lumeviqo_decode_supplied_summary(
         number: u64,
-        page: *const u8,
-        page_length: usize,
+        stored: *const u8,
+        stored_length: usize,
         fits: *const u8,
         fits_length: usize,
         shifted: *const u8,
