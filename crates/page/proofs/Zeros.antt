@@ -9,6 +9,7 @@ use lib.Dec.{eqb}
 use lib.ListN.{length, getD, drop}
 use Rattle.lists.specs.Bytes.{fourBytes, quadAt}
 use Rattle.lists.specs.Counts.{allAre}
+use Rattle.lists.proofs.Booleans.{not-true}
 use Rattle.lists.proofs.Same.{are-past, are-at}
 
 -- two tests that pass together are one
@@ -16,10 +17,6 @@ pub same-test : (a b : Bool) → (a ≡ true → b ≡ true) → (b ≡ true →
 same-test true b f g = sym (f refl)
 same-test false true f g = g refl
 same-test false false f g = refl
-
-pub not-true-is-false : (b : Bool) → (b ≡ true → ⊥) → b ≡ false
-not-true-is-false true f = absurd (f refl)
-not-true-is-false false f = refl
 
 -- four bytes are zero if the number that they are is 0
 pub four-zero : (a b c d : ℕ) → eqb (fourBytes a b c d) 0 ≡ allAre 0 (a ∷ b ∷ c ∷ d ∷ [])
@@ -62,7 +59,7 @@ module _ (l : List ℕ) where
   -- where eight bytes are not zero, not all are
   pub not-zeros : (i : ℕ) → i + 7 < length l → (quadAt l i + 4294967296 * quadAt l (i + 4) ≡ 0 → ⊥) → allAre 0 l ≡ false
   not-zeros i h n =
-      not-true-is-false (allAre 0 l)
+      not-true (allAre 0 l)
       (λ e.
       let p : quadAt l i ≡ 0 = quad-zero i (omega arith) e in
       let q : quadAt l (i + 4) ≡ 0 = quad-zero (i + 4) (omega arith) e in
