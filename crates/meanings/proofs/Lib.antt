@@ -1,0 +1,1 @@
+-- The proofs of what a choice means, and what they lean on.

@@ -1,0 +1,2 @@
+-- What a choice of bv means.
+pub mod Values
