@@ -10,9 +10,10 @@ use borrow.Author.Tests.{eq-eqb, ne-eqb}
 use Rattle.lists.specs.Bytes.{pairAt}
 use Rattle.lists.specs.Pieces.{each}
 use Rattle.lists.proofs.Each.{each-more, each-length}
-use Rattle.answers.specs.Warns.{warningNumber, withParseWarning}
+use Rattle.answers.specs.Warns.{warningNumber, noParseWarnings, withParseWarning}
 use Rattle.answers.specs.declared.kinds.Answer.{Answer}
 use Rattle.answers.specs.declared.notices.WarningKind.{WarningKind}
+use Rattle.answers.specs.declared.notices.Warning.{Warning}
 use Rattle.answers.specs.declared.notices.ParseWarnings.{ParseWarnings}
 use Rattle.slotted.specs.Directory.{slotsOf}
 use Rattle.slotted.specs.Decisions.{answerOf, startIn, countIn, decisionOf}
@@ -60,6 +61,44 @@ module _ (t : ParseWarnings) (number : ℕ) (kind : WarningKind) where
   pub warned-one : (warningNumber kind ≡ 0 → ⊥) → withParseWarning t number kind ≡ warned t number kind
   unfolding warned
   warned-one z = rw (ne-eqb (warningNumber kind) 0 z) refl
+
+-- a table made with one, two or three warnings
+module _ (t : ParseWarnings) (number : ℕ) (e : t ≡ noParseWarnings) where
+  abbrev noted : WarningKind → Warning
+  noted kind = record { page = number; kind = kind }
+
+  pub made-one : (a : WarningKind) → record { items = set (t .items) 0 (noted a); len = 1 } ≡ withParseWarning noParseWarnings number a
+  unfolding withParseWarning noParseWarnings
+  made-one a = rw e refl
+
+  pub made-two :
+      (a b : WarningKind)
+      → record { items = set (set (t .items) 0 (noted a)) 1 (noted b); len = 2 } ≡ withParseWarning (withParseWarning noParseWarnings number a) number b
+  unfolding withParseWarning noParseWarnings
+  made-two a b = rw e refl
+
+  pub made-three :
+      (a b c : WarningKind)
+      → record { items = set (set (set (t .items) 0 (noted a)) 1 (noted b)) 2 (noted c); len = 3 }
+      ≡ withParseWarning (withParseWarning (withParseWarning noParseWarnings number a) number b) number c
+  unfolding withParseWarning noParseWarnings
+  made-three a b c = rw e refl
+
+-- and the table of two warnings that may be none, by which of them are given
+module _ (t r : ParseWarnings) (number : ℕ) (a b : WarningKind) where
+  pub given-first : r ≡ warned t number a → warningNumber b ≡ 0 → r ≡ warned (warned t number a) number b
+  given-first e zb = e ∙ warned-none (warned t number a) number b zb
+
+  pub given-second : r ≡ warned t number b → warningNumber a ≡ 0 → r ≡ warned (warned t number a) number b
+  given-second e za = e ∙ ap (λ (x : ParseWarnings). warned x number b) (warned-none t number a za)
+
+  pub given-both :
+      r ≡ withParseWarning (withParseWarning t number a) number b
+      → (warningNumber a ≡ 0 → ⊥)
+      → (warningNumber b ≡ 0 → ⊥)
+      → r ≡ warned (warned t number a) number b
+  given-both e na nb =
+      e ∙ warned-one (withParseWarning t number a) number b nb ∙ ap (λ (x : ParseWarnings). warned x number b) (warned-one t number a na)
 
 -- the answer, part by part
 module _ (lim number : ℕ) (plain : List ℕ) (lenient : Bool) (d : Decided) (e : d ≡ decisionOf lim plain lenient) where

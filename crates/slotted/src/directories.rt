@@ -5,6 +5,7 @@ use crate::verdicts::slot_at;
 use answers::Answer;
 use answers::Options;
 use answers::ParseWarnings;
+use answers::Warning;
 use answers::WarningKind;
 use slots::SEARCH_LIMIT;
 ghost use mathlib.Core.Path.{_≡_};
@@ -13,7 +14,7 @@ ghost use Prim.Native.Nat.{_+_, _*_, _≤_, min};
 ghost use lib.ListN.{length};
 ghost use Rattle.slots.specs.Slots.{searchLimit};
 ghost use Rattle.answers.specs.Settings.{directory};
-ghost use Rattle.answers.specs.Warns.{noParseWarnings};
+ghost use Rattle.answers.specs.Warns.{noParseWarnings, withParseWarning};
 ghost use Rattle.slotted.specs.Directory.{slotsOf};
 ghost use Rattle.slotted.specs.Decisions.{SoundIn};
 ghost use Rattle.slotted.specs.Parses.{tableOf, directoryOf, declaredIn, isListed, warned, parsedOf};
@@ -72,41 +73,86 @@ pub fn parse_answer(number: u64, plain: &[u8], options: Options) -> Answer
     verdict.answer(number)
 }
 
-// The table of the warnings that were given. It is long, and most pages give none: it is then made in its place, and not moved.
+// The table of the warnings that were given. It is long: whichever function makes it makes it in its place, and it is not moved.
 fn given(number: u64, first: WarningKind, second: WarningKind, third: WarningKind) -> ParseWarnings
     ensures { λ r. ⌜ r ≡ warned (warned (warned noParseWarnings number first) number second) number third ⌝ }
 {
-    if first.number() != 0 {
-        return listed(number, first, second, third);
+    if first.number() == 0 {
+        return last_two(number, second, third);
     }
-    if second.number() != 0 {
-        return listed(number, first, second, third);
+    if second.number() == 0 {
+        if third.number() == 0 {
+            return one(number, first);
+        }
+        return two(number, first, third);
     }
-    if third.number() != 0 {
-        return listed(number, first, second, third);
+    if third.number() == 0 {
+        return two(number, first, second);
     }
-    ParseWarnings::none()
+    three(number, first, second, third)
 }
 
-fn listed(number: u64, first: WarningKind, second: WarningKind, third: WarningKind) -> ParseWarnings
-    ensures { λ r. ⌜ r ≡ warned (warned (warned noParseWarnings number first) number second) number third ⌝ }
+fn last_two(number: u64, second: WarningKind, third: WarningKind) -> ParseWarnings
+    ensures { λ r. ⌜ r ≡ warned (warned noParseWarnings number second) number third ⌝ }
 {
-    let none = ParseWarnings::none();
-    warn(
-        warn(warn(none, number, first), number, second),
-        number,
-        third,
-    )
+    if second.number() == 0 {
+        if third.number() == 0 {
+            return ParseWarnings::none();
+        }
+        return one(number, third);
+    }
+    if third.number() == 0 {
+        return one(number, second);
+    }
+    two(number, second, third)
 }
 
-// One warning more, unless it is `Nothing`.
-fn warn(warnings: ParseWarnings, number: u64, kind: WarningKind) -> ParseWarnings
-    ensures { λ r. ⌜ r ≡ warned warnings number kind ⌝ }
+fn one(number: u64, a: WarningKind) -> ParseWarnings
+    ensures { λ r. ⌜ r ≡ withParseWarning noParseWarnings number a ⌝ }
 {
-    if kind.number() == 0 {
-        return warnings;
-    }
-    warnings.with(number, kind)
+    let mut table = ParseWarnings::none();
+    table.items[0] = Warning {
+        page: number,
+        kind: a,
+    };
+    table.len = 1;
+    table
+}
+
+fn two(number: u64, a: WarningKind, b: WarningKind) -> ParseWarnings
+    ensures { λ r. ⌜ r ≡ withParseWarning (withParseWarning noParseWarnings number a) number b ⌝ }
+{
+    let mut table = ParseWarnings::none();
+    table.items[0] = Warning {
+        page: number,
+        kind: a,
+    };
+    table.items[1] = Warning {
+        page: number,
+        kind: b,
+    };
+    table.len = 2;
+    table
+}
+
+fn three(number: u64, a: WarningKind, b: WarningKind, c: WarningKind) -> ParseWarnings
+    ensures { λ r. ⌜ r ≡ withParseWarning (withParseWarning (withParseWarning noParseWarnings number a) number b) number c ⌝ }
+{
+    let mut table = ParseWarnings::none();
+    table.items[0] = Warning {
+        page: number,
+        kind: a,
+    };
+    table.items[1] = Warning {
+        page: number,
+        kind: b,
+    };
+    table.items[2] = Warning {
+        page: number,
+        kind: c,
+    };
+    table.len = 3;
+    table
 }
 
 fn is_listed(listed: Listed) -> bool
