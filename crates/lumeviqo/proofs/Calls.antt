@@ -1,10 +1,10 @@
--- Laws of a call: the answer buffer is too short, fits are lent that are not 48 bytes, or the answer is told. Assumes nothing.
+-- Laws of a call: the answer buffer is too short, what is lent as fits is none, or the answer is told. Assumes nothing.
 use Prim.Native.Nat.{ℕ, _≤_, _<_}
 use mathlib.Core.Path.{_≡_, refl, sym, ap, _∙_}
 use mathlib.Core.Bool.{Bool, true, false, _&&_}
 use mathlib.Core.List.{List, []}
 use native.Mathlib.Omega.{arith}
-use borrow.Author.Tests.{lt-leb, le-leb, eq-eqb, ne-eqb}
+use borrow.Author.Tests.{lt-leb, le-leb}
 use lib.ListN.{length}
 use Rattle.lists.specs.Cases.{pick}
 use Rattle.lists.proofs.Over.{over-none}
@@ -18,7 +18,6 @@ use Rattle.numbers.specs.Writes.{Wrote}
 use Rattle.numbers.proofs.Stored.{wrote-same, wrote-over}
 use Rattle.fields.specs.Fields.{Field, sizeOf, layoutBytes}
 use Rattle.fields.proofs.Puts.{layout-short}
-use Rattle.parts.specs.Parts.{fitsSize}
 use Rattle.parts.specs.Lent.{isLent, fitsIn}
 use Rattle.layout.specs.Layouts.{scanSize, scanBytes, replacementBytes, decodingSize, decodingBytes}
 use Rattle.layout.proofs.Sizes.{summary-size, decoding-size}
@@ -50,15 +49,6 @@ module _ (n : ℕ) (answer : List ℕ) (lent : Bool) (x y : List ℕ) where
 
   given : {z : List ℕ} → n ≤ length answer → lent ≡ true → z ≡ x → z ≡ pick (hasRoom n answer && lent) x y
   given h e f = rw (le-leb n (length answer) h, e) f
-
--- ---- fits
-
-module _ (fits : List ℕ) where
-  pub lent-not : (length fits ≡ fitsSize → ⊥) → isLent fits ≡ false
-  lent-not h = ne-eqb (length fits) fitsSize h
-
-  pub lent-well : length fits ≡ fitsSize → isLent fits ≡ true
-  lent-well h = eq-eqb (length fits) fitsSize h
 
 -- ---- scan
 

@@ -23,7 +23,7 @@ use Rattle.slots.specs.Slots.{searchLimit}
 abbrev pub hasRoom : ℕ → List ℕ → Bool
 hasRoom n answer = leb n (length answer)
 
--- an answer's bytes; of a call that lends fits of another length than 48, none
+-- an answer's bytes; of a call that lends as fits what is none, no bytes
 abbrev pub toldIf : Bool → List ℕ → List ℕ
 toldIf lent bytes = pick lent bytes []
 

@@ -6,7 +6,6 @@ ghost use Rattle.parts.specs.Lent.{isLent};
 ghost use Rattle.lumeviqo.specs.Calls.{decoded, decodedFrom, supplied, suppliedFrom, DecodingCall};
 use answers::Options;
 use layout::DECODING_SIZE;
-use parts::FITS_SIZE;
 
 #[no_mangle]
 pub extern "C" fn lumeviqo_decode(
@@ -50,7 +49,7 @@ pub extern "C" fn lumeviqo_decode_summary(
     if answer.len() < DECODING_SIZE {
         return 0;
     }
-    if fits.len() != FITS_SIZE {
+    if !parts::fits_lent(fits) {
         return 0;
     }
     let options = Options::new(leniency, t);
@@ -101,7 +100,7 @@ pub extern "C" fn lumeviqo_decode_supplied_summary(
     if answer.len() < DECODING_SIZE {
         return 0;
     }
-    if fits.len() != FITS_SIZE {
+    if !parts::fits_lent(fits) {
         return 0;
     }
     let options = Options::new(leniency, t);

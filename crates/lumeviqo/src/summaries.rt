@@ -1,7 +1,6 @@
 // Scan and replacement.
 ghost use Rattle.lumeviqo.specs.Calls.{ScanCall, ReplaceCall};
 use layout::SCAN_SIZE;
-use parts::FITS_SIZE;
 
 #[no_mangle]
 pub extern "C" fn lumeviqo_scan(
@@ -36,7 +35,7 @@ pub extern "C" fn lumeviqo_replace(
     if answer.len() < SCAN_SIZE {
         return 0;
     }
-    if fits.len() != FITS_SIZE {
+    if !parts::fits_lent(fits) {
         return 0;
     }
     let lent = parts::fits_in(fits);

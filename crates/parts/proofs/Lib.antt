@@ -1,2 +1,3 @@
 -- Laws of the parts.
 pub mod Sizes
+pub mod LentFits

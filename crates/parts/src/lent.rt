@@ -2,7 +2,8 @@
 ghost use mathlib.Core.Path.{_≡_};
 ghost use Prim.Native.Nat.{_+_, _≤_};
 ghost use lib.ListN.{length};
-ghost use Rattle.parts.specs.Lent.{blankFits, fitIn, fitsIn};
+ghost use Rattle.parts.specs.Lent.{blankFits, fitIn, fitsIn, isLent};
+use crate::FIT_SIZE;
 use crate::FITS_SIZE;
 use numbers::pair;
 use sector::Fit;
@@ -23,6 +24,23 @@ pub fn fits_in(bytes: &[u8]) -> [Fit; 8]
     let f6 = fit_in(bytes, 36);
     let f7 = fit_in(bytes, 42);
     [f0, f1, f2, f3, f4, f5, f6, f7]
+}
+
+// Whether the bytes are eight fits: 48 of them, and 0 or 1 wherever a fit says whether it is exact.
+pub fn fits_lent(bytes: &[u8]) -> bool
+    ensures { λ r. ⌜ r ≡ isLent (now (bytes .entry)) ⌝ }
+{
+    if bytes.len() != FITS_SIZE {
+        return false;
+    }
+    let mut s: usize = 0;
+    while s < 8 {
+        if 1 < bytes[FIT_SIZE * s + 5] {
+            return false;
+        }
+        s += 1;
+    }
+    true
 }
 
 fn blank() -> [Fit; 8]

@@ -9,6 +9,7 @@ pub use entries::put_fit;
 pub use entries::put_ground;
 pub use entries::put_warning;
 pub use lent::fits_in;
+pub use lent::fits_lent;
 pub use tables::put_bvs;
 pub use tables::put_fits;
 pub use tables::put_grounds;

@@ -1,8 +1,9 @@
 -- `lumeviqo_decode_supplied_summary` meets its contract: nothing where the call is not taken, else the decoding is told.
 use borrow.Author.Needs.{needs}
-use mathlib.Core.Path.{ap, _∙_}
+use mathlib.Core.Path.{sym, ap, _∙_}
 use native.Mathlib.Omega.{arith}
 use denote.Ref.{now}
+use Rattle.lists.proofs.Booleans.{not-back}
 use lib.ListN.{length}
 use Rattle.answers.specs.declared.settings.Options.{Options}
 use Rattle.decode.specs.Decode.{suppliedDecodingOf}
@@ -10,12 +11,12 @@ use Rattle.sector.specs.declared.fits.Fit.{Fit}
 use mathlib.Core.List.{List}
 use Rattle.parts.specs.Lent.{fitsIn}
 use Rattle.slots.specs.Slots.{searchLimit}
-use Rattle.lumeviqo.proofs.Calls.{lent-not, lent-well, decoding-short, decoding-not, decoding-made}
+use Rattle.lumeviqo.proofs.Calls.{decoding-short, decoding-not, decoding-made}
 use Rattle.lumeviqo.proofs.decodings.lumeviqo_decode_supplied_summary.Statement.{statement}
 use Rattle.lumeviqo.proofs.decodings.lumeviqo_decode_supplied_summary.Tie as tie
 
 returns-2 : tie.Need-returns-2
-returns-2 c = decoding-not (omega arith) (lent-not (now (c .before .before .before .before .before .before .before .args .fits)) (c .if2 .taken))
+returns-2 c = decoding-not (omega arith) (sym (c .before .fits-lent .ensures) ∙ not-back (c .if2 .taken))
 
 returns-3 : tie.Need-returns-3
 returns-3 c =
@@ -24,11 +25,11 @@ returns-3 c =
     let lent = found .before .before in
     let settings = lent .before in
     let well = settings .before in
-    let room = well .before in
+    let room = well .before .before in
     let a = room .before .before .before .before .before .before .args in
     decoding-made _
     (omega (arith, room .if1 .left))
-    (lent-well (now (a .fits)) (well .if2 .left))
+    (sym (well .before .fits-lent .ensures) ∙ not-back (well .if2 .left))
     (found .decode-summary-with-bv .ensures .0
     ∙ ap (λ (f : List Fit). suppliedDecodingOf searchLimit (a .number) (a .bv) (now (a .stored)) f (now (a .shifted)) (settings .new .result) (length (now (a .out)))) (lent .fits-in .ensures)
     ∙ ap (λ (o : Options). suppliedDecodingOf searchLimit (a .number) (a .bv) (now (a .stored)) (fitsIn (now (a .fits))) (now (a .shifted)) o (length (now (a .out)))) (settings .new .ensures))
@@ -40,6 +41,7 @@ lumeviqo-decode-supplied-summary-spec =
     tie.close
     (tie.spec
     (λ c. decoding-short (omega arith))
+    (λ c κs. search needs)
     returns-2
     (λ c κs. search needs)
     (λ c κs. search needs)

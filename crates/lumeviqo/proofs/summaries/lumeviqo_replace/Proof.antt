@@ -1,16 +1,17 @@
 -- `lumeviqo_replace` meets its contract: nothing where the call is not taken, else the replacement is told.
 use borrow.Author.Needs.{needs}
-use mathlib.Core.Path.{ap, _∙_}
+use mathlib.Core.Path.{sym, ap, _∙_}
 use native.Mathlib.Omega.{arith}
 use denote.Ref.{now}
+use Rattle.lists.proofs.Booleans.{not-back}
 use lib.ListN.{length}
 use Rattle.summary.specs.Replace.{replaced}
-use Rattle.lumeviqo.proofs.Calls.{lent-not, lent-well, replace-short, replace-not, replace-made}
+use Rattle.lumeviqo.proofs.Calls.{replace-short, replace-not, replace-made}
 use Rattle.lumeviqo.proofs.summaries.lumeviqo_replace.Statement.{statement}
 use Rattle.lumeviqo.proofs.summaries.lumeviqo_replace.Tie as tie
 
 returns-2 : tie.Need-returns-2
-returns-2 c = replace-not (omega arith) (lent-not (now (c .before .before .before .before .before .before .before .args .fits)) (c .if2 .taken))
+returns-2 c = replace-not (omega arith) (sym (c .before .fits-lent .ensures) ∙ not-back (c .if2 .taken))
 
 returns-3 : tie.Need-returns-3
 returns-3 c =
@@ -18,11 +19,11 @@ returns-3 c =
     let found = write .before .before .before .before .before .before in
     let lent = found .before .before .before in
     let well = lent .before in
-    let room = well .before in
+    let room = well .before .before in
     let a = room .before .before .before .before .before .before .args in
     replace-made _
     (omega (arith, room .if1 .left))
-    (lent-well (now (a .fits)) (well .if2 .left))
+    (sym (well .before .fits-lent .ensures) ∙ not-back (well .if2 .left))
     (found .replace-sector .ensures .0 ∙ ap (replaced (a .number) (a .sector) (now (a .bytes)) (length (now (a .stored))) (length (now (a .shifted)))) (lent .fits-in .ensures))
     (found .replace-sector .ensures .1)
     (found .replace-sector .ensures .2)
@@ -33,6 +34,7 @@ lumeviqo-replace-spec =
     tie.close
     (tie.spec
     (λ c. replace-short (omega arith))
+    (λ c κs. search needs)
     returns-2
     (λ c κs. search needs)
     (λ c κs. search needs)
