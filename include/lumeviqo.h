@@ -4,8 +4,8 @@
  *
  * Every function takes each buffer as a pointer and a length in bytes, and writes its whole answer to the buffer `answer` in the
  * layouts below. It returns how many bytes of `answer` it wrote. It returns 0, and writes nothing at all to any buffer, where
- * `answer` is shorter than the layout, or where `fits` is lent and is not LUMEVIQO_FITS_LENGTH bytes. A longer `answer` is allowed:
- * bytes past the layout stay as they are.
+ * `answer` is shorter than the layout, or where what is lent as `fits` is no fits: it is not LUMEVIQO_FITS_LENGTH bytes long, or the
+ * byte that marks a fit as exact is neither 0 nor 1. A longer `answer` is allowed: bytes past the layout stay as they are.
  *
  * A refusal writes its answer and no other buffer. Its values are those of the answer part; every byte behind the answer part is
  * zero, but for the candidates of answer 5, and for the fits of a refused replacement, which are those that were lent.
@@ -64,7 +64,7 @@ extern "C" {
 #define LUMEVIQO_FIT_STEP 0           /* u8 */
 #define LUMEVIQO_FIT_PEAK 1           /* u16 */
 #define LUMEVIQO_FIT_RUNNER_UP 3      /* u16 */
-#define LUMEVIQO_FIT_EXACT 5          /* flag     read as set where it is not 0 */
+#define LUMEVIQO_FIT_EXACT 5          /* flag     lent fits with another byte here are refused: 0 is returned */
 #define LUMEVIQO_FIT_LENGTH 6
 
 /* Fits, as they are lent too: one for each sector, in the sectors' order. */

@@ -327,11 +327,23 @@ static void run(bool end, Outcome *outcome) {
 
 /* What must hold, whatever the input. */
 
-/* The answer that the lengths alone decide, with its value; 0 where they decide nothing, -1 where nothing may be answered. */
+/* Where a sector's fit stands among the fits. */
+static size_t fit_at(size_t sector) { return LUMEVIQO_FIT_LENGTH * sector; }
+
+static bool fits_lent(void) {
+    if (call.length[FITS] != LUMEVIQO_FITS_LENGTH)
+        return false;
+    for (size_t s = 0; s < SECTORS; s++)
+        if (call.held[FITS][fit_at(s) + LUMEVIQO_FIT_EXACT] > 1)
+            return false;
+    return true;
+}
+
+/* The answer that lengths and lent fits alone decide, with its value; 0 where they decide nothing, -1 where nothing may be answered. */
 static int decided(uint64_t *value) {
     const Function *f = &functions[call.function];
     const size_t *n = call.length;
-    if (n[ANSWER] < f->layout || (f->lent & OF(FITS) && n[FITS] != LUMEVIQO_FITS_LENGTH))
+    if (n[ANSWER] < f->layout || (f->lent & OF(FITS) && !fits_lent()))
         return -1;
     *value = n[PAGE];
     if (n[PAGE] != WHOLE)
@@ -371,13 +383,7 @@ static void check_answer_part(const uint8_t *a) {
          "the first value is the page number");
 }
 
-/* Where a sector's fit stands among the fits. */
-static size_t fit_at(size_t sector) { return LUMEVIQO_FIT_LENGTH * sector; }
-
-/* Fits as they come back: exact is 0 or 1. */
-static bool same_fit(const uint8_t *lent, const uint8_t *back) {
-    return memcmp(lent, back, LUMEVIQO_FIT_EXACT) == 0 && back[LUMEVIQO_FIT_EXACT] == (lent[LUMEVIQO_FIT_EXACT] != 0);
-}
+static bool same_fit(const uint8_t *lent, const uint8_t *back) { return memcmp(lent, back, LUMEVIQO_FIT_LENGTH) == 0; }
 
 static void check_candidates(const uint8_t *a, size_t least) {
     size_t count = a[LUMEVIQO_DECODING_CANDIDATE_COUNT];
@@ -831,6 +837,12 @@ static void alienate(int role) {
         damage(call.held[role], right_length(role));
 }
 
+/* Most noise is no fits, as a mark is 0 or 1: most of it is made fits of another page. */
+static void mark_fits(void) {
+    for (size_t s = 0; s < SECTORS; s++)
+        call.held[FITS][fit_at(s) + LUMEVIQO_FIT_EXACT] &= 1;
+}
+
 static void random_call(void) {
     enum { K = LUMEVIQO_LENIENT_KEYSTREAM, D = LUMEVIQO_LENIENT_DIRECTORY, I = LUMEVIQO_LENIENT_INTEGRITY, SOME_ANCHORS = 512 };
     right_call((int)below(FUNCTIONS));
@@ -854,6 +866,8 @@ static void random_call(void) {
     for (int role = 0; role < ANSWER; role++)
         if (one_in(6) && role != ANCHORS)
             alienate(role);
+    if (!one_in(24))
+        mark_fits();
     if (call.function == SCAN)
         noise(call.held[SHIFTED], DATA);
     for (int role = 0; role < ROLES; role++)
