@@ -1,2 +1,8 @@
 -- The proofs of what a choice means, and what they lean on.
 pub mod Values
+pub mod Passing
+pub mod Voting
+pub mod Standing
+pub mod BvTable
+pub mod Ranking
+pub mod Outcomes

@@ -1,2 +1,3 @@
 -- What a choice of bv means.
 pub mod Values
+pub mod Sources

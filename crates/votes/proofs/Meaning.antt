@@ -69,7 +69,7 @@ in-last v (x ∷ l) n = go (eqb v x) (in-last v l n)
 
 -- the numbers below n that pass a test: they rise, and they are just those
 module _ (p : ℕ → Bool) where
-  among-rises : (n : ℕ) → Rises n (among p (λ v. v) n)
+  pub among-rises : (n : ℕ) → Rises n (among p (λ v. v) n)
   unfolding among
   among-rises zero = record { within = λ i h. absurd (omega arith); strictly = λ i j q h. absurd (omega arith) }
   among-rises (suc n) = go (p n) (among-rises n)
@@ -103,7 +103,7 @@ module _ (p : ℕ → Bool) where
     has-more false q ih (yes e) = ap (isIn v) (append-nil (among p (λ v. v) n)) ∙ before ih e ∙ same false q e
     has-more false q ih (no ne) = ap (isIn v) (append-nil (among p (λ v. v) n)) ∙ ih ∙ other ne
 
-  among-has : (n v : ℕ) → isIn v (among p (λ v. v) n) ≡ (ltb v n && p v)
+  pub among-has : (n v : ℕ) → isIn v (among p (λ v. v) n) ≡ (ltb v n && p v)
   unfolding among isIn
   among-has zero v = sym (ap (λ (b : Bool). b && p v) (le-ltb v 0 (omega arith)))
   among-has (suc n) v = has-more n v (p n) refl (among-has n v) (ℕ-discrete v n)
@@ -117,7 +117,7 @@ module _ (g : Candidate → ℕ) where
   map-one true x = refl
   map-one false x = refl
 
-  map-among : (p : ℕ → Bool) (f : ℕ → Candidate) (n : ℕ) → map g (among p f n) ≡ among p (λ v. g (f v)) n
+  pub map-among : (p : ℕ → Bool) (f : ℕ → Candidate) (n : ℕ) → map g (among p f n) ≡ among p (λ v. g (f v)) n
   unfolding among
   map-among p f zero = refl
   map-among p f (suc n) =

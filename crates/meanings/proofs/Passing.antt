@@ -1,0 +1,117 @@
+-- Laws of the numbers that pass a test: none, one, or two of them, the first, and those that pass a second test too. Assumes nothing.
+use Prim.Native.Nat.{ℕ, zero, suc, _+_, _≤_, _<_, zero-le}
+use mathlib.Core.Path.{_≡_, refl, sym, ap, ap₂, _∙_}
+use mathlib.Core.Bool.{Bool, true, false, _&&_}
+use mathlib.Core.List.{List, [], _∷_, _++_}
+use mathlib.Core.Logic.{⊎-elim}
+use native.Mathlib.Nat.{le-of-suc-le-suc, not-suc-le-zero, eq-or-lt-of-le}
+use native.Mathlib.Omega.{arith}
+use lib.ListN.{length, getD, List·getD-append}
+use lib.Seq.{getD-at}
+use Rattle.lists.specs.Cases.{pick, flag}
+use Rattle.lists.specs.Counts.{howMany}
+use Rattle.lists.specs.Pieces.{among, keep}
+use Rattle.lists.proofs.Among.{among-length}
+use Rattle.lists.proofs.Booleans.{not-true}
+use Rattle.lists.proofs.Keep.{keep-append}
+use Rattle.votes.proofs.Tests.{lt-cases}
+
+module _ (p : ℕ → Bool) where
+  pub some-pass : (n k : ℕ) → k < n → p k ≡ true → 0 < howMany p n
+  unfolding howMany
+  some-pass zero k h e = absurd (not-suc-le-zero h)
+  some-pass (suc n) k h e =
+      ⊎-elim (λ q. let f : p n ≡ true = ap p (sym q) ∙ e in omega (arith, ap flag f)) (λ l. omega (arith, some-pass n k l e))
+      (eq-or-lt-of-le (le-of-suc-le-suc h))
+
+  pub none-pass : (n : ℕ) → howMany p n ≡ 0 → (k : ℕ) → k < n → p k ≡ false
+  none-pass n e k h = not-true (p k) (λ t. omega (arith, some-pass n k h t))
+
+  pub all-fail : (n : ℕ) → ((k : ℕ) → k < n → p k ≡ false) → howMany p n ≡ 0
+  unfolding howMany
+  all-fail zero h = refl
+  all-fail (suc n) h = omega (arith, all-fail n (λ k l. h k (omega arith)), ap flag (h n (omega arith)))
+
+  two-pass : (n j k : ℕ) → j < k → k < n → p j ≡ true → p k ≡ true → 2 ≤ howMany p n
+  unfolding howMany
+  two-pass zero j k q h e f = absurd (not-suc-le-zero h)
+  two-pass (suc n) j k q h e f =
+      ⊎-elim (λ r. let g : p n ≡ true = ap p (sym r) ∙ f in omega (arith, ap flag g, some-pass n j (omega arith) e))
+      (λ l. omega (arith, two-pass n j k q l e f)) (eq-or-lt-of-le (le-of-suc-le-suc h))
+
+  pub both-pass : (n j k : ℕ) → j < n → k < n → (j ≡ k → ⊥) → p j ≡ true → p k ≡ true → 2 ≤ howMany p n
+  both-pass n j k l h d e f =
+      lt-cases (2 ≤ howMany p n) j k (λ q. two-pass n j k q h e f) (λ q. two-pass n k j (omega arith) l f e)
+
+  pub only-one : (n k : ℕ) → howMany p n ≤ 1 → k < n → p k ≡ true → (j : ℕ) → j < n → (j ≡ k → ⊥) → p j ≡ false
+  only-one n k one h e j l d = not-true (p j) (λ t. omega (arith, both-pass n j k l h d t e))
+
+  pub at-most-one : (n k : ℕ) → ((j : ℕ) → j < n → p j ≡ true → j ≡ k) → howMany p n ≤ 1
+  unfolding howMany
+  at-most-one zero k h = zero-le
+  at-most-one (suc n) k h = go (p n) refl (at-most-one n k (λ j l. h j (omega arith)))
+    where
+      go : (b : Bool) → p n ≡ b → howMany p n ≤ 1 → howMany p n + flag b ≤ 1
+      go true e ih =
+          omega (arith, all-fail n (λ j l. not-true (p j) (λ t. omega (arith, h j (omega arith) t, h n (omega arith) e))))
+      go false e ih = omega arith
+
+-- as many pass a wider test, or more
+pub wider-pass : (p q : ℕ → Bool) (n : ℕ) → ((k : ℕ) → k < n → p k ≡ true → q k ≡ true) → howMany p n ≤ howMany q n
+unfolding howMany
+wider-pass p q zero h = zero-le
+wider-pass p q (suc n) h = go (wider-pass p q n (λ k l. h k (omega arith))) (p n) refl
+  where
+    go : howMany p n ≤ howMany q n → (b : Bool) → p n ≡ b → howMany p n + flag b ≤ howMany q n + flag (q n)
+    go ih true e = omega (arith, ih, ap flag (h n (omega arith) e))
+    go ih false e = omega (arith, ih)
+
+-- ---- those that pass, in a list
+
+module _ {A : Type 0} (f : ℕ → A) where
+  pub among-ext : (p q : ℕ → Bool) (n : ℕ) → ((k : ℕ) → k < n → p k ≡ q k) → among p f n ≡ among q f n
+  unfolding among
+  among-ext p q zero h = refl
+  among-ext p q (suc n) h =
+      ap₂ (λ (l : List A) (b : Bool). l ++ pick b (f n ∷ []) []) (among-ext p q n (λ k l. h k (omega arith))) (h n (omega arith))
+
+  pub kept-among : (p : ℕ → Bool) (q : A → Bool) (n : ℕ) → keep q (among p f n) ≡ among (λ k. p k && q (f k)) f n
+  unfolding among keep
+  kept-among p q zero = refl
+  kept-among p q (suc n) =
+      keep-append q (among p f n) (pick (p n) (f n ∷ []) []) ∙ ap₂ (λ (l m : List A). l ++ m) (kept-among p q n) (one (p n))
+    where
+      one : (b : Bool) → keep q (pick b (f n ∷ []) []) ≡ pick (b && q (f n)) (f n ∷ []) []
+      one true = refl
+      one false = refl
+
+  -- the first of them
+  pub record First (p : ℕ → Bool) (d : A) (n : ℕ) : Type 0 where
+    pub at : ℕ
+    pub below : at < n
+    pub passes : p at ≡ true
+    pub first : getD (among p f n) 0 d ≡ f at
+
+  pub first-passes : (p : ℕ → Bool) (d : A) (n : ℕ) → 0 < howMany p n → First p d n
+  unfolding among howMany
+  first-passes p d zero h = absurd (not-suc-le-zero h)
+  first-passes p d (suc n) h = go (howMany p n) refl (p n) refl (first-passes p d n)
+    where
+      go : (m : ℕ) → howMany p n ≡ m → (b : Bool) → p n ≡ b → (0 < howMany p n → First p d n) → First p d (suc n)
+      go (suc m) e b q ih =
+          let r : First p d n = ih (omega arith) in
+          record {
+            at = r .at;
+            below = omega (arith, r .below);
+            passes = r .passes;
+            first = List·getD-append (among p f n) (pick (p n) (f n ∷ []) []) d 0 (omega (arith, among-length p f n)) ∙ r .first;
+          }
+      go zero e true q ih =
+          record {
+            at = n;
+            below = omega arith;
+            passes = q;
+            first =
+                ap (λ (b : Bool). getD (among p f n ++ pick b (f n ∷ []) []) 0 d) q ∙ getD-at (among p f n) (f n) [] d 0 (among-length p f n ∙ e);
+          }
+      go zero e false q ih = absurd (omega (arith, h, ap flag q))

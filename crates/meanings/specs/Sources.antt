@@ -1,0 +1,207 @@
+-- What a choice of bv means, in words of the page: by what its source rests on, why it is refused, and among which values it is disputed. v is
+-- a value of bv, n the stored row count, t the least that is tested. Assumes nothing.
+use Prim.Native.Nat.{ℕ, _≤_, _<_}
+use mathlib.Core.Path.{_≡_}
+use mathlib.Core.Bool.{Bool, true, false, not, _&&_, _||_}
+use mathlib.Core.List.{List}
+use lib.Dec.{eqb, ltb, leb}
+use lib.ListN.{length}
+use Rattle.lists.specs.Cases.{pick, flag}
+use Rattle.lists.specs.Bytes.{byteAt, plainOf, AllBytes}
+use Rattle.lists.specs.Counts.{howMany, isIn}
+use Rattle.lists.specs.Pieces.{each}
+use Rattle.answers.specs.Answers.{numberOf, noBvs}
+use Rattle.answers.specs.Settings.{keystream}
+use Rattle.answers.specs.declared.kinds.Answer.{Answer}
+use Rattle.answers.specs.declared.kinds.Answer.the-variants as answer
+use Rattle.answers.specs.declared.kinds.Bvs.{Bvs}
+use Rattle.answers.specs.declared.trust.Source.{Source}
+use Rattle.answers.specs.declared.trust.Source.the-variants as source
+use Rattle.answers.specs.declared.trust.Confidence.{Confidence}
+use Rattle.answers.specs.declared.trust.Confidence.the-variants as confidence
+use Rattle.answers.specs.declared.notices.WarningKind.{WarningKind}
+use Rattle.answers.specs.declared.notices.WarningKind.the-variants as warning
+use Rattle.answers.specs.declared.settings.Options.{Options}
+use Rattle.slots.specs.Slots.{rowCountMatches}
+use Rattle.votes.specs.Votes.{countsOf, topOf, isVerified}
+use Rattle.groups.specs.Groups.{above}
+use Rattle.choice.specs.declared.Choice.{Choice}
+use Rattle.choice.specs.Rules.{choiceOf}
+use Rattle.meanings.specs.Values.{isExact, valueOf, exactSectors, votesFor, zerosWith, standsFor}
+
+-- ---- candidates
+
+-- v is a candidate; it is another candidate than bv
+pub record Stands (shifted : List ℕ) (v : ℕ) : Type 0 where
+  pub byte : v < 256
+  pub candidate : standsFor shifted v ≡ true
+
+pub record Other (shifted : List ℕ) (bv v : ℕ) : Type 0 where
+  pub stands : Stands shifted v
+  pub differs : v ≡ bv → ⊥
+
+-- how many candidates there are, and how many of them are verified
+unfoldable pub candidateNumber : List ℕ → ℕ
+candidateNumber shifted = howMany (standsFor shifted) 256
+
+unfoldable pub verifiedNumber : ℕ → List ℕ → ℕ → ℕ → ℕ
+verifiedNumber lim shifted n t = howMany (λ v. standsFor shifted v && isVerified lim shifted n t v) 256
+
+pub record NoneVerified (lim : ℕ) (shifted : List ℕ) (n t : ℕ) : Type 0 where
+  pub none : (v : ℕ) → Stands shifted v → isVerified lim shifted n t v ≡ false
+
+abbrev pub topValue : List ℕ → ℕ
+topValue shifted = topOf (countsOf shifted)
+
+-- ---- what is disputed
+
+-- "two or more votes, or anchored and top": what makes another candidate a rival
+unfoldable pub isStrong : List ℕ → List ℕ → ℕ → Bool
+isStrong shifted anchors v = leb 2 (votesFor shifted v) || (isIn v anchors && eqb v (topValue shifted))
+
+-- "Two or more verified: ambiguous among them. One verified: .. ambiguous among rivals and it. .. Two or more voted values: ambiguous among them"
+unfoldable pub isDisputed : ℕ → List ℕ → List ℕ → ℕ → ℕ → ℕ → Bool
+isDisputed lim shifted anchors n t v =
+    standsFor shifted v
+    && pick (leb 2 (verifiedNumber lim shifted n t)) (isVerified lim shifted n t v)
+    (pick (eqb (verifiedNumber lim shifted n t) 1) (isVerified lim shifted n t v || isStrong shifted anchors v) (ltb 0 (votesFor shifted v)))
+
+-- there is a dispute where two or more values are disputed
+unfoldable pub disputedNumber : ℕ → List ℕ → List ℕ → ℕ → ℕ → ℕ
+disputedNumber lim shifted anchors n t = howMany (isDisputed lim shifted anchors n t) 256
+
+-- "the greatest by votes, verified, anchored, count, and then the smallest bv": v comes before w
+unfoldable pub comesBefore : ℕ → List ℕ → List ℕ → ℕ → ℕ → ℕ → ℕ → Bool
+comesBefore lim shifted anchors n t v w =
+    above (votesFor shifted v) (votesFor shifted w)
+    (above (flag (isVerified lim shifted n t v)) (flag (isVerified lim shifted n t w))
+    (above (flag (isIn v anchors)) (flag (isIn w anchors)) (above (zerosWith shifted v) (zerosWith shifted w) (ltb v w))))
+
+-- the values of a table; they are, ascending and each once, just those that pass a test
+abbrev pub listOf : Bvs → List ℕ
+listOf table = each (byteAt (table .items)) (table .len)
+
+pub record Lists (p : ℕ → Bool) (table : Bvs) : Type 0 where
+  pub number : table .len ≡ howMany p 256
+  pub within : (i : ℕ) → i < table .len → byteAt (table .items) i < 256
+  pub ascending : (i j : ℕ) → i < j → j < table .len → byteAt (table .items) i < byteAt (table .items) j
+  pub just : (v : ℕ) → v < 256 → isIn v (listOf table) ≡ p v
+
+-- ---- rule 3. "One vote in all, for the top, anchored, no other candidate voted or anchored"
+
+pub record Corroborates (shifted anchors : List ℕ) (v : ℕ) : Type 0 where
+  pub one : exactSectors shifted ≡ 1
+  pub vote : votesFor shifted v ≡ 1
+  pub top : v ≡ topValue shifted
+  pub anchored : isIn v anchors ≡ true
+  pub alone : (w : ℕ) → Other shifted v w → isIn w anchors ≡ false
+
+-- ---- what a choice can be
+
+-- how a choice is marked
+pub record Marked (c : Choice) (x : Answer) (s : Source) (k : Confidence) (w : WarningKind) : Type 0 where
+  pub answered : c .answer ≡ x
+  pub from : c .source ≡ s
+  pub trusted : c .confidence ≡ k
+  pub warned : c .warned ≡ w
+
+abbrev pub RefusedWith : Choice → Answer → Type 0
+RefusedWith c x = Marked c x source.Refused confidence.Refused warning.Nothing
+
+module _ (lim number : ℕ) (shifted anchors : List ℕ) (n : ℕ) (o : Options) (c : Choice) where
+  abbrev t : ℕ
+  t = o .«min_trailer_count»
+
+  -- source 1: the data written with bv passes the row-count test; no other candidate's does, and none is a rival
+  pub record ByRowCount : Type 0 where
+    pub marked : Marked c answer.Accepted source.TrailerRowCount confidence.Verified warning.Nothing
+    pub unlisted : c .group ≡ noBvs
+    pub stands : Stands shifted (c .bv)
+    pub rows : 0 < n
+    pub passes : rowCountMatches lim (plainOf (c .bv) shifted) n t ≡ true
+    pub alone : (v : ℕ) → Other shifted (c .bv) v → isVerified lim shifted n t v ≡ false
+    pub unvoted : (v : ℕ) → Other shifted (c .bv) v → votesFor shifted v < 2
+    pub unanchored : (v : ℕ) → Other shifted (c .bv) v → v ≡ topValue shifted → isIn v anchors ≡ false
+
+  -- source 2: two or more sectors are exact, and all of them vote for bv
+  pub record ByExactSectors : Type 0 where
+    pub marked : Marked c answer.Accepted source.ExactSectors confidence.Calibrated warning.Nothing
+    pub unlisted : c .group ≡ noBvs
+    pub stands : Stands shifted (c .bv)
+    pub unverified : NoneVerified lim shifted n t
+    pub two : 2 ≤ exactSectors shifted
+    pub all : votesFor shifted (c .bv) ≡ exactSectors shifted
+    pub each-one : (s : ℕ) → s < 8 → isExact shifted s ≡ true → valueOf shifted s ≡ c .bv
+
+  -- source 5: the one exact sector votes for the top, and the anchors have it and no other candidate
+  pub record ByCorroboration : Type 0 where
+    pub marked : Marked c answer.Accepted source.Corroborated confidence.Corroborated warning.Nothing
+    pub unlisted : c .group ≡ noBvs
+    pub stands : Stands shifted (c .bv)
+    pub unverified : NoneVerified lim shifted n t
+    pub corroborates : Corroborates shifted anchors (c .bv)
+
+  -- source 3 with warning 5: let through, the disputed value that comes before every other, and these beside it
+  pub record ByRank : Type 0 where
+    pub marked : Marked c answer.Accepted source.Histogram confidence.Unverified (warning.AmbiguousCalibration (c .bv))
+    pub lenient : keystream o ≡ true
+    pub stands : Stands shifted (c .bv)
+    pub dispute : 2 ≤ disputedNumber lim shifted anchors n t
+    pub disputed : isDisputed lim shifted anchors n t (c .bv) ≡ true
+    pub first :
+        (v : ℕ)
+        → Other shifted (c .bv) v
+        → isDisputed lim shifted anchors n t v ≡ true
+        → comesBefore lim shifted anchors n t (c .bv) v ≡ true
+    pub others : Lists (λ v. isDisputed lim shifted anchors n t v && not (eqb v (c .bv))) (c .group)
+
+  -- answer 5: refused, with what is disputed
+  pub record Ambiguous : Type 0 where
+    pub marked : RefusedWith c (answer.AmbiguousCalibration number)
+    pub strict : keystream o ≡ false
+    pub dispute : 2 ≤ disputedNumber lim shifted anchors n t
+    pub listed : Lists (isDisputed lim shifted anchors n t) (c .group)
+
+  -- rules 1 to 3 give nothing: no candidate is verified, one sector at most is exact, and the top is not corroborated
+  pub record Undecided : Type 0 where
+    pub unlisted : c .group ≡ noBvs
+    pub unverified : NoneVerified lim shifted n t
+    pub few : exactSectors shifted ≤ 1
+    pub uncorroborated : Corroborates shifted anchors (topValue shifted) → ⊥
+
+  -- source 3 with warning 6: let through, the top
+  pub record ByTop : Type 0 where
+    pub marked : Marked c answer.Accepted source.Histogram confidence.Unverified (warning.UnverifiedKeystream (c .bv))
+    pub lenient : keystream o ≡ true
+    pub stands : Stands shifted (c .bv)
+    pub top : c .bv ≡ topValue shifted
+    pub undecided : Undecided
+
+  -- answer 6: refused, with the top
+  pub record Unverified : Type 0 where
+    pub marked : RefusedWith c (answer.KeystreamUnverified number (topValue shifted))
+    pub strict : keystream o ≡ false
+    pub undecided : Undecided
+
+  -- answer 15, and answer 2
+  pub record TooMany : Type 0 where
+    pub marked : RefusedWith c (answer.TooManyCandidates number)
+    pub unlisted : c .group ≡ noBvs
+    pub many : 8 < candidateNumber shifted
+
+  pub record WrongLength : Type 0 where
+    pub marked : RefusedWith c (answer.WrongBufferLength (length shifted))
+    pub unlisted : c .group ≡ noBvs
+    pub wrong : length shifted ≡ 4080 → ⊥
+
+  -- one of these
+  pub data Meaning : Type 0 where
+    row-count : ByRowCount → Meaning
+    exact-sectors : ByExactSectors → Meaning
+    corroborated : ByCorroboration → Meaning
+    ranked : ByRank → Meaning
+    topmost : ByTop → Meaning
+    ambiguous : Ambiguous → Meaning
+    unverified : Unverified → Meaning
+    too-many : TooMany → Meaning
+    wrong-length : WrongLength → Meaning
