@@ -6,3 +6,4 @@ pub mod Standing
 pub mod BvTable
 pub mod Ranking
 pub mod Outcomes
+pub mod Sources

@@ -33,7 +33,7 @@ use Rattle.groups.specs.Groups.{firstOf, belongs, members, group, highestOf, bv
 use Rattle.choice.specs.declared.Choice.{Choice}
 use Rattle.choice.specs.Rules.{takenOf, refusedOf, ambiguousOf, unverifiedOf, topCandidate, ruleFour, isCorroborated, ruleThree, isCalibrated, ruleTwo, soleOf, ruleOne, chosen, choiceOf}
 use Rattle.meanings.specs.Values.{exactSectors, votesFor, standsFor}
-use Rattle.meanings.specs.Sources.{Stands, Other, candidateNumber, verifiedNumber, NoneVerified, topValue, isStrong, isDisputed, disputedNumber, Lists, Corroborates, Marked, Undecided, Meaning}
+use Rattle.meanings.specs.Sources.{Stands, Other, candidateNumber, verifiedNumber, NoneVerified, topValue, isStrong, isDisputed, disputedNumber, Lists, Corroborates, Meaning}
 use Rattle.meanings.proofs.Values.{ballots-number}
 use Rattle.meanings.proofs.Passing.{some-pass, none-pass, all-fail, only-one, both-pass, wider-pass, among-ext, kept-among, First, first-passes}
 use Rattle.meanings.proofs.Voting.{voted-stands, vote-alone, none-exact, all-agree, votes-apart}
@@ -188,7 +188,8 @@ module _ (lim number : ℕ) (shifted anchors : List ℕ) (n : ℕ) (o : Options)
       let votes : Bool = eqb (make top .votes) 1 in
       let behind : (votes && (isIn top anchors && rest)) ≡ true = and-right (eqb (length (ballots shifted)) 1) _ e in
       let anchor : (isIn top anchors && rest) ≡ true = and-right votes _ behind in
-      let none : howMany isSup 256 ≡ 0 = omega (arith, support-number, eqb-true (length (group (Supported top) a)) 0 (and-right (isIn top anchors) rest anchor)) in
+      let none : howMany isSup 256 ≡ 0 =
+      omega (arith, support-number, eqb-true (length (group (Supported top) a)) 0 (and-right (isIn top anchors) rest anchor)) in
       record {
         one = sym (ballots-number shifted) ∙ eqb-true (length (ballots shifted)) 1 (and-left (eqb (length (ballots shifted)) 1) _ e);
         vote = sym (made-votes lim shifted anchors n t top (top-stands .byte)) ∙ eqb-true (make top .votes) 1 (and-left votes _ behind);
@@ -230,17 +231,19 @@ module _ (lim number : ℕ) (shifted anchors : List ℕ) (n : ℕ) (o : Options)
         Meaning.topmost
         (record {
           marked = record { answered = refl; from = refl; trusted = refl; warned = refl };
+          unlisted = refl;
           lenient = k;
           stands = top-stands;
           top = refl;
-          undecided = record { unlisted = refl; unverified = none; few = one; uncorroborated = λ q. never-both e (corroborates-is q) };
+          undecided = record { unverified = none; few = one; uncorroborated = λ q. never-both e (corroborates-is q) };
         }))
         (λ k.
         Meaning.unverified
         (record {
           marked = record { answered = refl; from = refl; trusted = refl; warned = refl };
+          unlisted = refl;
           strict = k;
-          undecided = record { unlisted = refl; unverified = none; few = one; uncorroborated = λ q. never-both e (corroborates-is q) };
+          undecided = record { unverified = none; few = one; uncorroborated = λ q. never-both e (corroborates-is q) };
         }))
 
     on-three : Meaning lim number shifted anchors n o (ruleThree number (keystream o) a)
@@ -320,10 +323,13 @@ module _ (lim number : ℕ) (shifted anchors : List ℕ) (n : ℕ) (o : Options)
             marked = record { answered = refl; from = refl; trusted = refl; warned = refl };
             unlisted = refl;
             stands = record { byte = r .below; candidate = disputed-stands lim shifted anchors n t (r .at) (r .passes) };
-            unverified = none-verified;
-            two = omega (arith, first-votes, leb-true 2 (firstOf (group Voted a) .votes) e);
-            all = votes-all;
-            each-one = vote-alone shifted long bytes (r .at) only-voted;
+            agreed =
+                record {
+                  unverified = none-verified;
+                  two = omega (arith, first-votes, leb-true 2 (firstOf (group Voted a) .votes) e);
+                  all = vote-alone shifted long bytes (r .at) only-voted;
+                };
+            votes = votes-all;
           }))
 
     few-exact :
@@ -458,12 +464,15 @@ module _ (lim number : ℕ) (shifted anchors : List ℕ) (n : ℕ) (o : Options)
         (record {
           marked = record { answered = refl; from = refl; trusted = refl; warned = refl };
           unlisted = refl;
-          stands = record { byte = small; candidate = k-stands };
-          rows = ltb-true 0 n (and-left (ltb 0 n) _ k-verified);
-          passes = and-right (ltb 0 n) (rowCountMatches lim (plainOf k shifted) n t) k-verified;
-          alone = others-not;
-          unvoted = λ v q. leb-false 2 (votesFor shifted v) (or-no-left (leb 2 (votesFor shifted v)) _ (weak v q));
-          unanchored = λ v q e. unanchored v e (or-no-right (leb 2 (votesFor shifted v)) _ (weak v q));
+          sole =
+              record {
+                stands = record { byte = small; candidate = k-stands };
+                rows = ltb-true 0 n (and-left (ltb 0 n) _ k-verified);
+                passes = and-right (ltb 0 n) (rowCountMatches lim (plainOf k shifted) n t) k-verified;
+                alone = others-not;
+                unvoted = λ v q. leb-false 2 (votesFor shifted v) (or-no-left (leb 2 (votesFor shifted v)) _ (weak v q));
+                unanchored = λ v q e. unanchored v e (or-no-right (leb 2 (votesFor shifted v)) _ (weak v q));
+              };
         }))
         (λ e. on-dispute (group (Contest k (a .top)) a) contest (contest-two (eqb-false (length (group (Rivals k (a .top)) a)) 0 e)))
       where

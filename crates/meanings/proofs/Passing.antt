@@ -46,14 +46,15 @@ module _ (p : ℕ → Bool) where
   pub only-one : (n k : ℕ) → howMany p n ≤ 1 → k < n → p k ≡ true → (j : ℕ) → j < n → (j ≡ k → ⊥) → p j ≡ false
   only-one n k one h e j l d = not-true (p j) (λ t. omega (arith, both-pass n j k l h d t e))
 
-  pub at-most-one : (n k : ℕ) → ((j : ℕ) → j < n → p j ≡ true → j ≡ k) → howMany p n ≤ 1
+  -- where any two that pass are equal
+  pub all-equal : (n : ℕ) → ((j k : ℕ) → j < n → k < n → p j ≡ true → p k ≡ true → j ≡ k) → howMany p n ≤ 1
   unfolding howMany
-  at-most-one zero k h = zero-le
-  at-most-one (suc n) k h = go (p n) refl (at-most-one n k (λ j l. h j (omega arith)))
+  all-equal zero h = zero-le
+  all-equal (suc n) h = go (p n) refl (all-equal n (λ j k l m. h j k (omega arith) (omega arith)))
     where
       go : (b : Bool) → p n ≡ b → howMany p n ≤ 1 → howMany p n + flag b ≤ 1
       go true e ih =
-          omega (arith, all-fail n (λ j l. not-true (p j) (λ t. omega (arith, h j (omega arith) t, h n (omega arith) e))))
+          omega (arith, all-fail n (λ j l. not-true (p j) (λ t. omega (arith, h j n (omega arith) (omega arith) t e))))
       go false e ih = omega arith
 
 -- as many pass a wider test, or more

@@ -153,7 +153,12 @@ module _ (f : ℕ → Candidate) (named : (v : ℕ) → f v .bv ≡ v) (p : ℕ 
     leads-higher e small true o = leads-new e small o
     leads-higher e small false o = leads-old o
 
-    leads-kept : (b : Bool) → p n ≡ b → n < 256 → best ≡ fold higher (f k) (among p f n) → Leads k (suc n) (fold higher (f k) (among p f n ++ pick b (f n ∷ []) []))
+    leads-kept :
+        (b : Bool)
+        → p n ≡ b
+        → n < 256
+        → best ≡ fold higher (f k) (among p f n)
+        → Leads k (suc n) (fold higher (f k) (among p f n ++ pick b (f n ∷ []) []))
     unfolding higher
     leads-kept true e small q =
         let last : pick (outranks (f n) best) (f n) best ≡ fold higher (f k) (among p f n ++ (f n ∷ [])) =

@@ -4,6 +4,7 @@ use Prim.Native.Nat.{ℕ, _≤_, _<_}
 use mathlib.Core.Path.{_≡_}
 use mathlib.Core.Bool.{Bool, true, false, not, _&&_, _||_}
 use mathlib.Core.List.{List}
+use mathlib.Core.Logic.{_⊎_}
 use lib.Dec.{eqb, ltb, leb}
 use lib.ListN.{length}
 use Rattle.lists.specs.Cases.{pick, flag}
@@ -87,14 +88,42 @@ pub record Lists (p : ℕ → Bool) (table : Bvs) : Type 0 where
   pub ascending : (i j : ℕ) → i < j → j < table .len → byteAt (table .items) i < byteAt (table .items) j
   pub just : (v : ℕ) → v < 256 → isIn v (listOf table) ≡ p v
 
--- ---- rule 3. "One vote in all, for the top, anchored, no other candidate voted or anchored"
+-- ---- what decides
 
+-- rule 1. "With no rival it is taken": the data written with bv pass the row-count test, no other candidate's do, and none is a rival
+pub record SoleVerified (lim : ℕ) (shifted anchors : List ℕ) (n t bv : ℕ) : Type 0 where
+  pub stands : Stands shifted bv
+  pub rows : 0 < n
+  pub passes : rowCountMatches lim (plainOf bv shifted) n t ≡ true
+  pub alone : (v : ℕ) → Other shifted bv v → isVerified lim shifted n t v ≡ false
+  pub unvoted : (v : ℕ) → Other shifted bv v → votesFor shifted v < 2
+  pub unanchored : (v : ℕ) → Other shifted bv v → v ≡ topValue shifted → isIn v anchors ≡ false
+
+-- rule 2. "One voted value with two votes or more": two or more sectors are exact, and each votes for bv
+pub record Agreed (lim : ℕ) (shifted : List ℕ) (n t bv : ℕ) : Type 0 where
+  pub unverified : NoneVerified lim shifted n t
+  pub two : 2 ≤ exactSectors shifted
+  pub all : (s : ℕ) → s < 8 → isExact shifted s ≡ true → valueOf shifted s ≡ bv
+
+-- rule 3. "One vote in all, for the top, anchored, no other candidate voted or anchored"
 pub record Corroborates (shifted anchors : List ℕ) (v : ℕ) : Type 0 where
   pub one : exactSectors shifted ≡ 1
   pub vote : votesFor shifted v ≡ 1
   pub top : v ≡ topValue shifted
   pub anchored : isIn v anchors ≡ true
   pub alone : (w : ℕ) → Other shifted v w → isIn w anchors ≡ false
+
+-- rule 4. "Otherwise": no candidate is verified, one sector at most is exact, and the top is not corroborated
+pub record Undecided (lim : ℕ) (shifted anchors : List ℕ) (n t : ℕ) : Type 0 where
+  pub unverified : NoneVerified lim shifted n t
+  pub few : exactSectors shifted ≤ 1
+  pub uncorroborated : Corroborates shifted anchors (topValue shifted) → ⊥
+
+-- the rules are asked for 4,080 bytes with eight candidates at most
+pub record Asked (shifted : List ℕ) : Type 0 where
+  pub long : length shifted ≡ 4080
+  pub bytes : AllBytes shifted
+  pub few : candidateNumber shifted ≤ 8
 
 -- ---- what a choice can be
 
@@ -112,28 +141,21 @@ module _ (lim number : ℕ) (shifted anchors : List ℕ) (n : ℕ) (o : Options)
   abbrev t : ℕ
   t = o .«min_trailer_count»
 
-  -- source 1: the data written with bv passes the row-count test; no other candidate's does, and none is a rival
+  -- source 1
   pub record ByRowCount : Type 0 where
     pub marked : Marked c answer.Accepted source.TrailerRowCount confidence.Verified warning.Nothing
     pub unlisted : c .group ≡ noBvs
-    pub stands : Stands shifted (c .bv)
-    pub rows : 0 < n
-    pub passes : rowCountMatches lim (plainOf (c .bv) shifted) n t ≡ true
-    pub alone : (v : ℕ) → Other shifted (c .bv) v → isVerified lim shifted n t v ≡ false
-    pub unvoted : (v : ℕ) → Other shifted (c .bv) v → votesFor shifted v < 2
-    pub unanchored : (v : ℕ) → Other shifted (c .bv) v → v ≡ topValue shifted → isIn v anchors ≡ false
+    pub sole : SoleVerified lim shifted anchors n t (c .bv)
 
-  -- source 2: two or more sectors are exact, and all of them vote for bv
+  -- source 2
   pub record ByExactSectors : Type 0 where
     pub marked : Marked c answer.Accepted source.ExactSectors confidence.Calibrated warning.Nothing
     pub unlisted : c .group ≡ noBvs
     pub stands : Stands shifted (c .bv)
-    pub unverified : NoneVerified lim shifted n t
-    pub two : 2 ≤ exactSectors shifted
-    pub all : votesFor shifted (c .bv) ≡ exactSectors shifted
-    pub each-one : (s : ℕ) → s < 8 → isExact shifted s ≡ true → valueOf shifted s ≡ c .bv
+    pub agreed : Agreed lim shifted n t (c .bv)
+    pub votes : votesFor shifted (c .bv) ≡ exactSectors shifted
 
-  -- source 5: the one exact sector votes for the top, and the anchors have it and no other candidate
+  -- source 5
   pub record ByCorroboration : Type 0 where
     pub marked : Marked c answer.Accepted source.Corroborated confidence.Corroborated warning.Nothing
     pub unlisted : c .group ≡ noBvs
@@ -141,7 +163,7 @@ module _ (lim number : ℕ) (shifted anchors : List ℕ) (n : ℕ) (o : Options)
     pub unverified : NoneVerified lim shifted n t
     pub corroborates : Corroborates shifted anchors (c .bv)
 
-  -- source 3 with warning 5: let through, the disputed value that comes before every other, and these beside it
+  -- source 3 with warning 5: a dispute let through. bv is the disputed value that comes before every other, and the others stand beside it
   pub record ByRank : Type 0 where
     pub marked : Marked c answer.Accepted source.Histogram confidence.Unverified (warning.AmbiguousCalibration (c .bv))
     pub lenient : keystream o ≡ true
@@ -155,33 +177,28 @@ module _ (lim number : ℕ) (shifted anchors : List ℕ) (n : ℕ) (o : Options)
         → comesBefore lim shifted anchors n t (c .bv) v ≡ true
     pub others : Lists (λ v. isDisputed lim shifted anchors n t v && not (eqb v (c .bv))) (c .group)
 
-  -- answer 5: refused, with what is disputed
+  -- answer 5, with what is disputed beside it
   pub record Ambiguous : Type 0 where
     pub marked : RefusedWith c (answer.AmbiguousCalibration number)
     pub strict : keystream o ≡ false
     pub dispute : 2 ≤ disputedNumber lim shifted anchors n t
     pub listed : Lists (isDisputed lim shifted anchors n t) (c .group)
 
-  -- rules 1 to 3 give nothing: no candidate is verified, one sector at most is exact, and the top is not corroborated
-  pub record Undecided : Type 0 where
-    pub unlisted : c .group ≡ noBvs
-    pub unverified : NoneVerified lim shifted n t
-    pub few : exactSectors shifted ≤ 1
-    pub uncorroborated : Corroborates shifted anchors (topValue shifted) → ⊥
-
-  -- source 3 with warning 6: let through, the top
+  -- source 3 with warning 6: the top, let through
   pub record ByTop : Type 0 where
     pub marked : Marked c answer.Accepted source.Histogram confidence.Unverified (warning.UnverifiedKeystream (c .bv))
+    pub unlisted : c .group ≡ noBvs
     pub lenient : keystream o ≡ true
     pub stands : Stands shifted (c .bv)
     pub top : c .bv ≡ topValue shifted
-    pub undecided : Undecided
+    pub undecided : Undecided lim shifted anchors n t
 
-  -- answer 6: refused, with the top
+  -- answer 6, of the top
   pub record Unverified : Type 0 where
     pub marked : RefusedWith c (answer.KeystreamUnverified number (topValue shifted))
+    pub unlisted : c .group ≡ noBvs
     pub strict : keystream o ≡ false
-    pub undecided : Undecided
+    pub undecided : Undecided lim shifted anchors n t
 
   -- answer 15, and answer 2
   pub record TooMany : Type 0 where
@@ -205,3 +222,55 @@ module _ (lim number : ℕ) (shifted anchors : List ℕ) (n : ℕ) (o : Options)
     unverified : Unverified → Meaning
     too-many : TooMany → Meaning
     wrong-length : WrongLength → Meaning
+
+  -- what a source and an answer say of the page
+  pub record Said : Type 0 where
+    pub row-count : c .source ≡ source.TrailerRowCount → ByRowCount
+    pub exact-sectors : c .source ≡ source.ExactSectors → ByExactSectors
+    pub corroborated : c .source ≡ source.Corroborated → ByCorroboration
+    pub histogram : c .source ≡ source.Histogram → ByRank ⊎ ByTop
+    pub ambiguous : numberOf (c .answer) ≡ 5 → Ambiguous
+    pub unverified : numberOf (c .answer) ≡ 6 → Unverified
+    pub too-many : numberOf (c .answer) ≡ 15 → TooMany
+    pub wrong-length : numberOf (c .answer) ≡ 2 → WrongLength
+
+  -- what a page makes of the choice
+  pub record Made : Type 0 where
+    pub row-count : Asked shifted → (bv : ℕ) → SoleVerified lim shifted anchors n t bv → ByRowCount × (c .bv ≡ bv)
+    pub exact-sectors : Asked shifted → (bv : ℕ) → Agreed lim shifted n t bv → ByExactSectors × (c .bv ≡ bv)
+    pub corroborated :
+        Asked shifted
+        → (bv : ℕ)
+        → NoneVerified lim shifted n t
+        → Corroborates shifted anchors bv
+        → ByCorroboration × (c .bv ≡ bv)
+    pub ranked : Asked shifted → 2 ≤ disputedNumber lim shifted anchors n t → keystream o ≡ true → ByRank
+    pub ambiguous : Asked shifted → 2 ≤ disputedNumber lim shifted anchors n t → keystream o ≡ false → Ambiguous
+    pub topmost : Asked shifted → Undecided lim shifted anchors n t → keystream o ≡ true → ByTop
+    pub unverified : Asked shifted → Undecided lim shifted anchors n t → keystream o ≡ false → Unverified
+    pub too-many : length shifted ≡ 4080 → 8 < candidateNumber shifted → TooMany
+    pub wrong-length : (length shifted ≡ 4080 → ⊥) → WrongLength
+
+-- ---- the theorems
+
+pub record ChoiceMeans : Type 0 where
+  -- every choice is one of the nine; so its marks say what holds of the page, and what holds of the page decides it
+  pub every :
+      (lim number : ℕ) (shifted anchors : List ℕ) (n : ℕ) (o : Options)
+      → AllBytes shifted
+      → Meaning lim number shifted anchors n o (choiceOf lim number shifted anchors n o)
+  pub said :
+      (lim number : ℕ) (shifted anchors : List ℕ) (n : ℕ) (o : Options)
+      → AllBytes shifted
+      → Said lim number shifted anchors n o (choiceOf lim number shifted anchors n o)
+  pub made :
+      (lim number : ℕ) (shifted anchors : List ℕ) (n : ℕ) (o : Options)
+      → Made lim number shifted anchors n o (choiceOf lim number shifted anchors n o)
+  -- eight exact sectors that vote for one value, and no row count: it is taken, whatever the anchors and the options
+  pub all-exact :
+      (lim number : ℕ) (shifted anchors : List ℕ) (o : Options) (bv : ℕ)
+      → length shifted ≡ 4080
+      → bv < 256
+      → ((s : ℕ) → s < 8 → (isExact shifted s ≡ true) × (valueOf shifted s ≡ bv))
+      → let c : Choice = choiceOf lim number shifted anchors 0 o in
+      ByExactSectors lim number shifted anchors 0 o c × (c .bv ≡ bv)
