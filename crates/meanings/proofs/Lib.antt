@@ -6,4 +6,5 @@ pub mod Standing
 pub mod BvTable
 pub mod Ranking
 pub mod Outcomes
+pub mod Deciding
 pub mod Sources

@@ -1,17 +1,14 @@
 -- What a choice says of its page, and what a page makes of its choice: from the nine that every choice is one of. Assumes nothing.
 use Prim.Native.Nat.{ℕ, _≤_, _<_}
-use mathlib.Core.Path.{_≡_, refl, sym, ap, ap₂, _∙_}
-use mathlib.Core.Bool.{Bool, true, false, _&&_, _||_}
+use mathlib.Core.Path.{_≡_, refl, sym, ap, _∙_, subst}
+use mathlib.Core.Bool.{true, false}
 use mathlib.Core.List.{List}
 use mathlib.Core.Logic.{_⊎_, inl, inr}
-use native.Mathlib.Decide.{ℕ-discrete}
 use native.Mathlib.Omega.{arith}
-use borrow.Author.Tests.{eq-eqb, lt-ltb, lt-leb, ne-eqb, ltb-true}
-use lib.Dec.{eqb, ltb, leb}
+use borrow.Author.Tests.{eq-eqb}
+use lib.Dec.{eqb}
 use lib.ListN.{length}
-use Rattle.lists.specs.Bytes.{AllBytes, plainOf}
-use Rattle.lists.specs.Counts.{howMany, isIn}
-use Rattle.lists.proofs.Booleans.{not-true, and-yes, and-left, and-right, and-not-both}
+use Rattle.lists.proofs.Booleans.{and-yes}
 use Rattle.lists.proofs.Picks.{never-both}
 use Rattle.answers.specs.Answers.{numberOf}
 use Rattle.answers.specs.Settings.{keystream}
@@ -21,15 +18,21 @@ use Rattle.answers.specs.declared.kinds.Answer.the-variants as answer
 use Rattle.answers.specs.declared.trust.Source.{Source}
 use Rattle.answers.specs.declared.trust.Source.the-variants as source
 use Rattle.answers.specs.declared.settings.Options.{Options}
-use Rattle.slots.specs.Slots.{rowCountMatches}
 use Rattle.votes.specs.Votes.{isVerified}
+use Rattle.votes.specs.declared.Assessment.{Assessment}
 use Rattle.votes.proofs.Tests.{lt-cases}
 use Rattle.choice.specs.declared.Choice.{Choice}
-use Rattle.meanings.specs.Values.{exactSectors, votesFor, standsFor}
-use Rattle.meanings.specs.Sources.{Stands, Other, candidateNumber, verifiedNumber, NoneVerified, topValue, isStrong, isDisputed, disputedNumber, SoleVerified, Agreed, Corroborates, Undecided, Asked, ByRowCount, ByExactSectors, ByCorroboration, ByRank, Ambiguous, ByTop, Unverified, TooMany, WrongLength, Meaning, Said, Made}
-use Rattle.meanings.proofs.Passing.{some-pass, all-fail, all-equal}
-use Rattle.meanings.proofs.Voting.{value-voted, all-agree, votes-apart}
-use Rattle.meanings.proofs.Outcomes.{disputed-one, disputed-voted, disputed-stands}
+use Rattle.choice.specs.Rules.{refusedOf, choiceOf}
+use Rattle.choice.proofs.ChoiceCases.{chosen-many, choice-length, choice-is}
+use Rattle.meanings.specs.Values.{isExact, standsFor}
+use Rattle.meanings.specs.Sources.{candidateNumber, verifiedNumber, NoneVerified, topValue, disputedNumber, SoleVerified, Agreed, Corroborates, Undecided}
+use Rattle.meanings.specs.Sources.{Asked, ByRowCount, ByExactSectors, ByCorroboration, ByRank, Ambiguous, ByTop, Unverified, TooMany, WrongLength}
+use Rattle.meanings.specs.Sources.{Meaning, Said, Made}
+use Rattle.meanings.proofs.Passing.{First}
+use Rattle.meanings.proofs.Voting.{all-agree}
+use Rattle.meanings.proofs.Standing.{assessment, candidates-few}
+use Rattle.meanings.proofs.Outcomes.{every-choice}
+use Rattle.meanings.proofs.Deciding.{none-number, sole-verified, sole-is, sole-number, sole-undisputed, one-undisputed, agreed-undisputed, exact-at}
 
 -- ---- what the marks say
 
@@ -142,3 +145,179 @@ module _ (lim number : ℕ) (shifted anchors : List ℕ) (n : ℕ) (o : Options)
             (λ q. other-answer (q .marked .answered) e refl)
             (λ q. q);
       }
+
+-- ---- what the page makes of the choice
+
+module _ (lim number : ℕ) (shifted anchors : List ℕ) (n : ℕ) (o : Options) (c : Choice) (m : Meaning lim number shifted anchors n o c) (asked : Asked shifted) where
+  abbrev t : ℕ
+  t = o .«min_trailer_count»
+
+  abbrev verified : ℕ
+  verified = verifiedNumber lim shifted n t
+
+  abbrev disputed : ℕ
+  disputed = disputedNumber lim shifted anchors n t
+
+  -- what each case leaves of the others
+  settled :
+      (P : Type 0)
+      → (ByRowCount lim number shifted anchors n o c → verified ≡ 1 → disputed ≤ 1 → P)
+      → (ByExactSectors lim number shifted anchors n o c → verified ≡ 0 → disputed ≤ 1 → P)
+      → (ByCorroboration lim number shifted anchors n o c → verified ≡ 0 → disputed ≤ 1 → P)
+      → (ByRank lim number shifted anchors n o c → P)
+      → (Ambiguous lim number shifted anchors n o c → P)
+      → (ByTop lim number shifted anchors n o c → verified ≡ 0 → disputed ≤ 1 → P)
+      → (Unverified lim number shifted anchors n o c → verified ≡ 0 → disputed ≤ 1 → P)
+      → P
+  settled P row exact one ranked ambiguous topmost unverified = go m
+    where
+      none : NoneVerified lim shifted n t → verified ≡ 0
+      none q = none-number lim shifted anchors n t q
+
+      go : Meaning lim number shifted anchors n o c → P
+      go (Meaning.row-count r) =
+          row r (sole-number lim shifted anchors n t (c .bv) (r .sole)) (sole-undisputed lim shifted anchors n t (c .bv) (r .sole))
+      go (Meaning.exact-sectors r) =
+          exact r (none (r .agreed .unverified)) (agreed-undisputed lim shifted anchors n t (none (r .agreed .unverified)) (c .bv) (r .votes))
+      go (Meaning.corroborated r) =
+          one r (none (r .unverified)) (one-undisputed lim shifted anchors n t (none (r .unverified)) (omega (arith, r .corroborates .one)))
+      go (Meaning.ranked r) = ranked r
+      go (Meaning.topmost r) =
+          topmost r (none (r .undecided .unverified)) (one-undisputed lim shifted anchors n t (none (r .undecided .unverified)) (r .undecided .few))
+      go (Meaning.ambiguous r) = ambiguous r
+      go (Meaning.unverified r) =
+          unverified r (none (r .undecided .unverified)) (one-undisputed lim shifted anchors n t (none (r .undecided .unverified)) (r .undecided .few))
+      go (Meaning.too-many r) = absurd (omega (arith, r .many, asked .few))
+      go (Meaning.wrong-length r) = absurd (r .wrong (asked .long))
+
+  sole-taken : (bv : ℕ) → SoleVerified lim shifted anchors n t bv → ByRowCount lim number shifted anchors n o c × (c .bv ≡ bv)
+  sole-taken bv q =
+      let one : verified ≡ 1 = sole-number lim shifted anchors n t bv q in
+      let few : disputed ≤ 1 = sole-undisputed lim shifted anchors n t bv q in
+      settled (ByRowCount lim number shifted anchors n o c × (c .bv ≡ bv)) (λ r v d. (r, same r)) (λ r v d. absurd (omega arith))
+      (λ r v d. absurd (omega arith))
+      (λ r. absurd (omega (arith, r .dispute)))
+      (λ r. absurd (omega (arith, r .dispute)))
+      (λ r v d. absurd (omega arith))
+      (λ r v d. absurd (omega arith))
+    where
+      same : ByRowCount lim number shifted anchors n o c → c .bv ≡ bv
+      same r =
+          sole-is lim shifted anchors n t bv q (c .bv) (r .sole .stands .byte)
+          (and-yes (standsFor shifted (c .bv)) (isVerified lim shifted n t (c .bv)) (r .sole .stands .candidate)
+          (sole-verified lim shifted anchors n t (c .bv) (r .sole)))
+
+  agreed-taken : (bv : ℕ) → Agreed lim shifted n t bv → ByExactSectors lim number shifted anchors n o c × (c .bv ≡ bv)
+  agreed-taken bv q =
+      let none : verified ≡ 0 = none-number lim shifted anchors n t (q .unverified) in
+      let few : disputed ≤ 1 = agreed-undisputed lim shifted anchors n t none bv (all-agree shifted bv (q .all)) in
+      settled (ByExactSectors lim number shifted anchors n o c × (c .bv ≡ bv)) (λ r v d. absurd (omega arith)) (λ r v d. (r, same r))
+      (λ r v d. absurd (omega (arith, r .corroborates .one, q .two)))
+      (λ r. absurd (omega (arith, r .dispute)))
+      (λ r. absurd (omega (arith, r .dispute)))
+      (λ r v d. absurd (omega (arith, r .undecided .few, q .two)))
+      (λ r v d. absurd (omega (arith, r .undecided .few, q .two)))
+    where
+      same : ByExactSectors lim number shifted anchors n o c → c .bv ≡ bv
+      same r =
+          let s : First (λ s. s) (isExact shifted) 0 8 = exact-at shifted (omega (arith, q .two)) in
+          sym (r .agreed .all (s .at) (s .below) (s .passes)) ∙ q .all (s .at) (s .below) (s .passes)
+
+  corroborated-taken :
+      (bv : ℕ)
+      → NoneVerified lim shifted n t
+      → Corroborates shifted anchors bv
+      → ByCorroboration lim number shifted anchors n o c × (c .bv ≡ bv)
+  corroborated-taken bv u q =
+      let none : verified ≡ 0 = none-number lim shifted anchors n t u in
+      let few : disputed ≤ 1 = one-undisputed lim shifted anchors n t none (omega (arith, q .one)) in
+      let top : Corroborates shifted anchors (topValue shifted) = subst (Corroborates shifted anchors) (q .top) q in
+      settled (ByCorroboration lim number shifted anchors n o c × (c .bv ≡ bv)) (λ r v d. absurd (omega arith))
+      (λ r v d. absurd (omega (arith, r .agreed .two, q .one)))
+      (λ r v d. (r, r .corroborates .top ∙ sym (q .top)))
+      (λ r. absurd (omega (arith, r .dispute)))
+      (λ r. absurd (omega (arith, r .dispute)))
+      (λ r v d. absurd (r .undecided .uncorroborated top))
+      (λ r v d. absurd (r .undecided .uncorroborated top))
+
+  dispute-ranked : 2 ≤ disputed → keystream o ≡ true → ByRank lim number shifted anchors n o c
+  dispute-ranked h k =
+      settled (ByRank lim number shifted anchors n o c) (λ r v d. absurd (omega arith)) (λ r v d. absurd (omega arith)) (λ r v d. absurd (omega arith))
+      (λ r. r)
+      (λ r. absurd (never-both (r .strict) k))
+      (λ r v d. absurd (omega arith))
+      (λ r v d. absurd (omega arith))
+
+  dispute-refused : 2 ≤ disputed → keystream o ≡ false → Ambiguous lim number shifted anchors n o c
+  dispute-refused h k =
+      settled (Ambiguous lim number shifted anchors n o c) (λ r v d. absurd (omega arith)) (λ r v d. absurd (omega arith)) (λ r v d. absurd (omega arith))
+      (λ r. absurd (never-both k (r .lenient)))
+      (λ r. r)
+      (λ r v d. absurd (omega arith))
+      (λ r v d. absurd (omega arith))
+
+  module _ (q : Undecided lim shifted anchors n t) where
+    none-left : verified ≡ 0
+    none-left = none-number lim shifted anchors n t (q .unverified)
+
+    few-left : disputed ≤ 1
+    few-left = one-undisputed lim shifted anchors n t none-left (q .few)
+
+    not-by-one : ByCorroboration lim number shifted anchors n o c → ⊥
+    not-by-one r = q .uncorroborated (subst (Corroborates shifted anchors) (r .corroborates .top) (r .corroborates))
+
+    undecided-topmost : keystream o ≡ true → ByTop lim number shifted anchors n o c
+    undecided-topmost k =
+        settled (ByTop lim number shifted anchors n o c) (λ r v d. absurd (omega (arith, none-left)))
+        (λ r v d. absurd (omega (arith, r .agreed .two, q .few)))
+        (λ r v d. absurd (not-by-one r))
+        (λ r. absurd (omega (arith, r .dispute, few-left)))
+        (λ r. absurd (omega (arith, r .dispute, few-left)))
+        (λ r v d. r)
+        (λ r v d. absurd (never-both (r .strict) k))
+
+    undecided-refused : keystream o ≡ false → Unverified lim number shifted anchors n o c
+    undecided-refused k =
+        settled (Unverified lim number shifted anchors n o c) (λ r v d. absurd (omega (arith, none-left)))
+        (λ r v d. absurd (omega (arith, r .agreed .two, q .few)))
+        (λ r v d. absurd (not-by-one r))
+        (λ r. absurd (omega (arith, r .dispute, few-left)))
+        (λ r. absurd (omega (arith, r .dispute, few-left)))
+        (λ r v d. absurd (never-both k (r .lenient)))
+        (λ r v d. r)
+
+module _ (lim number : ℕ) (shifted anchors : List ℕ) (n : ℕ) (o : Options) where
+  length-refused :
+      (length shifted ≡ 4080 → ⊥) → WrongLength lim number shifted anchors n o (choiceOf lim number shifted anchors n o)
+  unfolding refusedOf
+  length-refused h =
+      subst (WrongLength lim number shifted anchors n o) (sym (choice-length lim number shifted anchors n o h))
+      (record { marked = record { answered = refl; from = refl; trusted = refl; warned = refl }; unlisted = refl; wrong = h })
+
+  many-refused :
+      length shifted ≡ 4080 → 8 < candidateNumber shifted → TooMany lim number shifted anchors n o (choiceOf lim number shifted anchors n o)
+  unfolding refusedOf
+  many-refused l h =
+      let a : Assessment = assessment lim shifted anchors n (o .«min_trailer_count») in
+      let more : 8 < a .candidates .len =
+      lt-cases (8 < a .candidates .len) 8 (a .candidates .len) (λ k. k)
+      (λ k. absurd (omega (arith, candidates-few lim shifted anchors n (o .«min_trailer_count») k))) in
+      subst (TooMany lim number shifted anchors n o) (sym (choice-is lim number shifted anchors n o l ∙ chosen-many number (keystream o) a more))
+      (record { marked = record { answered = refl; from = refl; trusted = refl; warned = refl }; unlisted = refl; many = h })
+
+  pub made-by : Made lim number shifted anchors n o (choiceOf lim number shifted anchors n o)
+  made-by =
+      record {
+        row-count = λ k. sole-taken lim number shifted anchors n o _ (is k) k;
+        exact-sectors = λ k. agreed-taken lim number shifted anchors n o _ (is k) k;
+        corroborated = λ k. corroborated-taken lim number shifted anchors n o _ (is k) k;
+        ranked = λ k. dispute-ranked lim number shifted anchors n o _ (is k) k;
+        ambiguous = λ k. dispute-refused lim number shifted anchors n o _ (is k) k;
+        topmost = λ k. undecided-topmost lim number shifted anchors n o _ (is k) k;
+        unverified = λ k. undecided-refused lim number shifted anchors n o _ (is k) k;
+        too-many = many-refused;
+        wrong-length = length-refused;
+      }
+    where
+      is : Asked shifted → Meaning lim number shifted anchors n o (choiceOf lim number shifted anchors n o)
+      is k = every-choice lim number shifted anchors n o (k .bytes)
