@@ -5,11 +5,11 @@ use mathlib.Core.Bool.{Bool, _&&_}
 use mathlib.Core.List.{List, [], _∷_, _++_, append-assoc, append-nil}
 use native.Mathlib.Omega.{arith}
 use borrow.Author.Tests.{lt-ltb}
-use lib.ListN.{length, getD, set, length-append, length-set, length-map}
+use lib.ListN.{length, getD, set, length-append, length-set}
 use lib.Seq.{getD-set-same, getD-set-other}
 use Rattle.lists.specs.Bytes.{byteAt}
 use Rattle.lists.specs.Counts.{howMany, isIn}
-use Rattle.lists.specs.Pieces.{each, among, fold}
+use Rattle.lists.specs.Pieces.{among, fold}
 use Rattle.lists.proofs.Among.{among-length}
 use Rattle.lists.proofs.Each.{each-none, each-more, each-ext, each-at}
 use Rattle.lists.proofs.Picks.{pick-gt}
@@ -20,7 +20,7 @@ use Rattle.votes.specs.declared.Candidate.{Candidate}
 use Rattle.votes.proofs.Meaning.{Rises, among-rises, among-has, map-among, valuesOf}
 use Rattle.groups.specs.Groups.{andBv, bvsOf}
 use Rattle.meanings.specs.Sources.{listOf, Lists}
-use Rattle.meanings.proofs.Standing.{made, made-bv}
+use Rattle.meanings.proofs.Standing.{made}
 
 -- a table that holds a list
 record Holding (table : Bvs) (l : List ℕ) : Type 0 where

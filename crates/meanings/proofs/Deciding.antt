@@ -1,20 +1,20 @@
 -- What decides a choice leaves nothing else open: how many candidates are verified, and that no dispute is left. Assumes nothing.
-use Prim.Native.Nat.{ℕ, _+_, _≤_, _<_}
-use mathlib.Core.Path.{_≡_, refl, sym, ap, ap₂, _∙_}
+use Prim.Native.Nat.{ℕ, _≤_, _<_}
+use mathlib.Core.Path.{_≡_, sym, ap₂, _∙_}
 use mathlib.Core.Bool.{Bool, true, false, _&&_, _||_}
 use mathlib.Core.List.{List}
 use native.Mathlib.Decide.{ℕ-discrete}
 use native.Mathlib.Omega.{arith}
 use borrow.Author.Tests.{lt-ltb, lt-leb, eqb-true, ltb-true}
-use lib.Dec.{eqb, ltb, leb}
+use lib.Dec.{eqb, ltb}
 use Rattle.lists.specs.Bytes.{plainOf}
-use Rattle.lists.specs.Counts.{howMany, isIn}
+use Rattle.lists.specs.Counts.{isIn}
 use Rattle.lists.proofs.Booleans.{and-yes, and-left, and-right, and-not-both}
 use Rattle.lists.proofs.Picks.{never-both}
 use Rattle.slots.specs.Slots.{rowCountMatches}
 use Rattle.votes.specs.Votes.{isVerified}
-use Rattle.meanings.specs.Values.{isExact, valueOf, exactSectors, votesFor, standsFor}
-use Rattle.meanings.specs.Sources.{Stands, Other, verifiedNumber, NoneVerified, topValue, isStrong, isDisputed, disputedNumber, SoleVerified}
+use Rattle.meanings.specs.Values.{isExact, exactSectors, votesFor, standsFor}
+use Rattle.meanings.specs.Sources.{Other, verifiedNumber, NoneVerified, topValue, isStrong, isDisputed, disputedNumber, SoleVerified}
 use Rattle.meanings.proofs.Passing.{some-pass, all-fail, all-equal, First, first-passes}
 use Rattle.meanings.proofs.Voting.{votes-apart}
 use Rattle.meanings.proofs.Outcomes.{disputed-one, disputed-voted, disputed-stands}

@@ -7,4 +7,5 @@ pub mod BvTable
 pub mod Ranking
 pub mod Outcomes
 pub mod Deciding
+pub mod AllExact
 pub mod Sources

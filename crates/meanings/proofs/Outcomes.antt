@@ -31,9 +31,9 @@ use Rattle.votes.proofs.Tests.{lt-cases}
 use Rattle.groups.specs.declared.Group.the-variants.{Verified, Voted, Only, Others, Rivals, Contest, Supported}
 use Rattle.groups.specs.Groups.{firstOf, belongs, members, group, highestOf, bvsOf}
 use Rattle.choice.specs.declared.Choice.{Choice}
-use Rattle.choice.specs.Rules.{takenOf, refusedOf, ambiguousOf, unverifiedOf, topCandidate, ruleFour, isCorroborated, ruleThree, isCalibrated, ruleTwo, soleOf, ruleOne, chosen, choiceOf}
+use Rattle.choice.specs.Rules.{takenOf, refusedOf, ambiguousOf, unverifiedOf, topCandidate, isCorroborated, ruleThree, isCalibrated, ruleTwo, soleOf, ruleOne, chosen, choiceOf}
 use Rattle.meanings.specs.Values.{exactSectors, votesFor, standsFor}
-use Rattle.meanings.specs.Sources.{Stands, Other, candidateNumber, verifiedNumber, NoneVerified, topValue, isStrong, isDisputed, disputedNumber, Lists, Corroborates, Meaning}
+use Rattle.meanings.specs.Sources.{Stands, Other, candidateNumber, verifiedNumber, NoneVerified, isStrong, isDisputed, disputedNumber, Lists, Corroborates, Meaning}
 use Rattle.meanings.proofs.Values.{ballots-number}
 use Rattle.meanings.proofs.Passing.{some-pass, none-pass, all-fail, only-one, both-pass, wider-pass, among-ext, kept-among, First, first-passes}
 use Rattle.meanings.proofs.Voting.{voted-stands, vote-alone, none-exact, all-agree, votes-apart}

@@ -6,7 +6,7 @@ use mathlib.Core.List.{List, [], _∷_, _++_}
 use mathlib.Core.Logic.{⊎-elim}
 use native.Mathlib.Nat.{le-of-suc-le-suc, not-suc-le-zero, eq-or-lt-of-le}
 use native.Mathlib.Omega.{arith}
-use lib.ListN.{length, getD, List·getD-append}
+use lib.ListN.{getD, List·getD-append}
 use lib.Seq.{getD-at}
 use Rattle.lists.specs.Cases.{pick, flag}
 use Rattle.lists.specs.Counts.{howMany}

@@ -2,24 +2,21 @@
 use Prim.Native.Nat.{ℕ, zero, suc, _≤_, _<_}
 use mathlib.Core.Path.{_≡_, refl, sym, ap, _∙_, subst}
 use mathlib.Core.Bool.{Bool, true, false}
-use mathlib.Core.List.{List, [], _∷_, _++_, append-nil}
+use mathlib.Core.List.{[], _∷_, _++_, append-nil}
 use native.Mathlib.Decide.{ℕ-discrete}
 use native.Mathlib.Nat.{not-suc-le-zero}
 use native.Mathlib.Omega.{arith}
-use borrow.Author.Tests.{eq-eqb, ne-eqb, lt-ltb, le-ltb, ltb-true, ltb-false, eqb-true}
-use lib.Dec.{eqb, ltb}
-use lib.ListN.{getD}
+use borrow.Author.Tests.{eq-eqb, ne-eqb, lt-ltb, le-ltb, ltb-true, ltb-false}
+use lib.Dec.{ltb}
 use Rattle.lists.specs.Cases.{pick, flag}
 use Rattle.lists.specs.Counts.{howMany}
 use Rattle.lists.specs.Pieces.{among, fold}
 use Rattle.lists.proofs.Fold.{fold-last}
 use Rattle.lists.proofs.Picks.{never-both}
-use Rattle.votes.specs.Votes.{blankCandidate, candidateOf}
+use Rattle.votes.specs.Votes.{blankCandidate}
 use Rattle.votes.specs.declared.Candidate.{Candidate}
 use Rattle.groups.specs.Groups.{above, outranks, higher, highestOf}
-use Rattle.groups.proofs.Order.{higher-new, higher-old}
 use Rattle.meanings.proofs.Passing.{First, first-passes}
-use Rattle.meanings.proofs.Standing.{made}
 
 -- ---- the order of two numbers, and then of what comes behind
 

@@ -27,11 +27,12 @@ use Rattle.choice.proofs.ChoiceCases.{chosen-many, choice-length, choice-is}
 use Rattle.meanings.specs.Values.{isExact, standsFor}
 use Rattle.meanings.specs.Sources.{candidateNumber, verifiedNumber, NoneVerified, topValue, disputedNumber, SoleVerified, Agreed, Corroborates, Undecided}
 use Rattle.meanings.specs.Sources.{Asked, ByRowCount, ByExactSectors, ByCorroboration, ByRank, Ambiguous, ByTop, Unverified, TooMany, WrongLength}
-use Rattle.meanings.specs.Sources.{Meaning, Said, Made}
+use Rattle.meanings.specs.Sources.{Meaning, Said, Made, ChoiceMeans}
 use Rattle.meanings.proofs.Passing.{First}
 use Rattle.meanings.proofs.Voting.{all-agree}
 use Rattle.meanings.proofs.Standing.{assessment, candidates-few}
 use Rattle.meanings.proofs.Outcomes.{every-choice}
+use Rattle.meanings.proofs.AllExact.{exact-asked, exact-agreed}
 use Rattle.meanings.proofs.Deciding.{none-number, sole-verified, sole-is, sole-number, sole-undisputed, one-undisputed, agreed-undisputed, exact-at}
 
 -- ---- what the marks say
@@ -148,7 +149,8 @@ module _ (lim number : ℕ) (shifted anchors : List ℕ) (n : ℕ) (o : Options)
 
 -- ---- what the page makes of the choice
 
-module _ (lim number : ℕ) (shifted anchors : List ℕ) (n : ℕ) (o : Options) (c : Choice) (m : Meaning lim number shifted anchors n o c) (asked : Asked shifted) where
+module _ (lim number : ℕ) (shifted anchors : List ℕ) (n : ℕ) (o : Options) (c : Choice)
+    (m : Meaning lim number shifted anchors n o c) (asked : Asked shifted) where
   abbrev t : ℕ
   t = o .«min_trailer_count»
 
@@ -321,3 +323,17 @@ module _ (lim number : ℕ) (shifted anchors : List ℕ) (n : ℕ) (o : Options)
     where
       is : Asked shifted → Meaning lim number shifted anchors n o (choiceOf lim number shifted anchors n o)
       is k = every-choice lim number shifted anchors n o (k .bytes)
+
+-- ---- the theorems
+
+pub choice-means : ChoiceMeans
+choice-means =
+    record {
+      every = every-choice;
+      said = λ lim number shifted anchors n o bytes. said-by lim number shifted anchors n o _ (every-choice lim number shifted anchors n o bytes);
+      made = made-by;
+      all-exact =
+          λ lim number shifted anchors o bv long small exact.
+          made-by lim number shifted anchors 0 o .exact-sectors (exact-asked shifted bv long small exact) bv
+          (exact-agreed shifted bv long small exact lim (o .«min_trailer_count»));
+    }

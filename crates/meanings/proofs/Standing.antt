@@ -1,26 +1,25 @@
 -- The groups of candidates as values of bv: which values a group has, in words of the page. Assumes nothing.
 use Prim.Native.Nat.{ℕ, _≤_, _<_, min}
-use mathlib.Core.Path.{_≡_, refl, sym, ap, ap₂, _∙_}
-use mathlib.Core.Bool.{Bool, true, false, not, _&&_, _||_}
+use mathlib.Core.Path.{_≡_, refl, ap, _∙_}
+use mathlib.Core.Bool.{Bool, not, _&&_, _||_}
 use mathlib.Core.List.{List}
 use native.Mathlib.Omega.{arith}
 use lib.Dec.{eqb, ltb, leb}
 use lib.ListN.{length}
-use Rattle.lists.specs.Cases.{flag}
-use Rattle.lists.specs.Bytes.{byteAt, AllBytes}
-use Rattle.lists.specs.Counts.{howMany, isIn}
-use Rattle.lists.specs.Pieces.{each, among, keep}
+use Rattle.lists.specs.Bytes.{AllBytes}
+use Rattle.lists.specs.Counts.{isIn}
+use Rattle.lists.specs.Pieces.{among, keep}
 use Rattle.lists.proofs.Among.{among-length}
 use Rattle.lists.proofs.Each.{each-length}
-use Rattle.votes.specs.Votes.{countsOf, ballots, topOf, isCandidate, isVerified, candidateOf, candidatesBelow, candidateAt, listed, tabled, assessmentOf}
+use Rattle.votes.specs.Votes.{countsOf, ballots, topOf, isCandidate, isVerified, candidateOf, candidatesBelow, candidateAt, listed, assessmentOf}
 use Rattle.votes.specs.declared.Candidate.{Candidate}
 use Rattle.votes.specs.declared.Assessment.{Assessment}
-use Rattle.votes.proofs.CandidateTable.{Holds, tabled-holds, tabled-listed}
+use Rattle.votes.proofs.CandidateTable.{tabled-holds, tabled-listed}
 use Rattle.votes.proofs.Tests.{lt-cases}
 use Rattle.groups.specs.declared.Group.{Group}
-use Rattle.groups.specs.declared.Group.the-variants.{Verified, Voted, Only, Others, Rivals, Contest, Supported}
-use Rattle.groups.specs.Groups.{belongs, group, isRival, hasSupport, above, outranks}
-use Rattle.meanings.specs.Values.{votesFor, zerosWith, standsFor}
+use Rattle.groups.specs.declared.Group.the-variants.{Voted, Rivals, Contest, Supported}
+use Rattle.groups.specs.Groups.{belongs, group, isRival, hasSupport, outranks}
+use Rattle.meanings.specs.Values.{votesFor, standsFor}
 use Rattle.meanings.specs.Sources.{candidateNumber, isStrong, comesBefore}
 use Rattle.meanings.proofs.Values.{ballots-at, zeros-at}
 use Rattle.meanings.proofs.Passing.{kept-among, among-ext}
@@ -69,18 +68,7 @@ module _ (lim : ℕ) (shifted anchors : List ℕ) (n t : ℕ) where
         → group g assessment ≡ among p made 256
     group-as g p h = group-values g ∙ among-ext made (λ v. standsFor shifted v && belongs g (made v)) p 256 h
 
-    pub group-number : (g : Group) (p : ℕ → Bool) → group g assessment ≡ among p made 256 → length (group g assessment) ≡ howMany p 256
-    group-number g p e = ap length e ∙ among-length p made 256
-
   -- ---- what a group asks of a value
-
-  pub assessed-top : assessment .top ≡ topOf (countsOf shifted)
-  unfolding assessmentOf
-  assessed-top = refl
-
-  pub assessed-total : assessment .total ≡ length (ballots shifted)
-  unfolding assessmentOf
-  assessed-total = refl
 
   module _ (v : ℕ) where
     pub made-bv : made v .bv ≡ v
@@ -90,18 +78,6 @@ module _ (lim : ℕ) (shifted anchors : List ℕ) (n t : ℕ) where
     pub made-verified : made v .verified ≡ isVerified lim shifted n t v
     unfolding candidateOf
     made-verified = refl
-
-    pub made-anchored : made v .anchored ≡ isIn v anchors
-    unfolding candidateOf
-    made-anchored = refl
-
-    pub made-only : (w : ℕ) → belongs (Only w) (made v) ≡ eqb v w
-    unfolding candidateOf
-    made-only w = refl
-
-    pub made-other : (w : ℕ) → belongs (Others w) (made v) ≡ not (eqb v w)
-    unfolding candidateOf
-    made-other w = refl
 
     module _ (h : v < 256) where
       pub made-votes : made v .votes ≡ votesFor shifted v
@@ -123,10 +99,6 @@ module _ (lim : ℕ) (shifted anchors : List ℕ) (n t : ℕ) where
       pub made-supported : (bv : ℕ) → belongs (Supported bv) (made v) ≡ (not (eqb v bv) && (ltb 0 (votesFor shifted v) || isIn v anchors))
       unfolding hasSupport candidateOf
       made-supported bv = ap (λ (k : ℕ). not (eqb v bv) && (ltb 0 k || isIn v anchors)) (ballots-at shifted v h)
-
-      pub made-zeros : AllBytes shifted → made v .zeros ≡ zerosWith shifted v
-      unfolding candidateOf
-      made-zeros b = zeros-at shifted v h b
 
   pub made-outranks : (v w : ℕ) → v < 256 → w < 256 → AllBytes shifted → outranks (made v) (made w) ≡ comesBefore lim shifted anchors n t v w
   unfolding outranks comesBefore candidateOf

@@ -1,15 +1,14 @@
 -- What the exact sectors vote for: where all vote for one value, and where one vote leaves none for another. Assumes nothing.
 use Prim.Native.Nat.{ℕ, _+_, _*_, _≤_, _<_}
-use mathlib.Core.Path.{_≡_, refl, sym, ap, ap₂, _∙_}
+use mathlib.Core.Path.{_≡_, refl, sym, ap, _∙_}
 use mathlib.Core.Bool.{Bool, true, false, not, _&&_, _||_}
 use mathlib.Core.List.{List}
 use native.Mathlib.Omega.{arith}
 use borrow.Author.Tests.{eq-eqb, ne-eqb, eqb-true, lt-ltb}
-use lib.Dec.{eqb, ltb}
+use lib.Dec.{eqb}
 use lib.ListN.{length}
 use Rattle.lists.specs.Bytes.{byteAt, AllBytes}
-use Rattle.lists.specs.Counts.{howMany}
-use Rattle.lists.proofs.Booleans.{not-true, and-yes, and-left, and-right, and-not-both}
+use Rattle.lists.proofs.Booleans.{not-true, and-yes, and-left, and-right}
 use Rattle.lists.proofs.Many.{many-ext}
 use Rattle.votes.specs.Votes.{countsOf, ballots, isCommon, isCandidate}
 use Rattle.meanings.specs.Values.{isExact, valueOf, exactSectors, votesFor, dissentFrom, standsFor}
