@@ -33,13 +33,13 @@ use Rattle.groups.specs.Groups.{firstOf, belongs, members, group, highestOf, bv
 use Rattle.choice.specs.declared.Choice.{Choice}
 use Rattle.choice.specs.Rules.{takenOf, refusedOf, ambiguousOf, unverifiedOf, topCandidate, isCorroborated, ruleThree, isCalibrated, ruleTwo, soleOf, ruleOne, chosen, choiceOf}
 use Rattle.meanings.specs.Values.{exactSectors, votesFor, standsFor}
-use Rattle.meanings.specs.Sources.{Stands, Other, candidateNumber, verifiedNumber, NoneVerified, isStrong, isDisputed, disputedNumber, Lists, Corroborates, Meaning}
+use Rattle.meanings.specs.Sources.{Stands, Other, candidateNumber, verifiedNumber, NoneVerified, isStrong, isDisputed, disputedNumber, comesBefore, Lists, Corroborates, Meaning}
 use Rattle.meanings.proofs.Values.{ballots-number}
 use Rattle.meanings.proofs.Passing.{some-pass, none-pass, all-fail, only-one, both-pass, wider-pass, among-ext, kept-among, First, first-passes}
 use Rattle.meanings.proofs.Voting.{voted-stands, vote-alone, none-exact, all-agree, votes-apart}
 use Rattle.meanings.proofs.Standing.{made, assessment, made-bv, made-verified, made-votes, made-voted, made-rival, made-contest, made-supported, made-outranks, group-as, candidates-few, many-candidates}
 use Rattle.meanings.proofs.BvTable.{group-lists}
-use Rattle.meanings.proofs.Ranking.{Highest, highest-passes}
+use Rattle.meanings.proofs.Ranking.{above-most, Highest, highest-passes}
 
 and-rest : (a b : Bool) → a ≡ true → (a && b) ≡ false → b ≡ false
 and-rest true b e f = f
@@ -99,6 +99,10 @@ module _ (lim number : ℕ) (shifted anchors : List ℕ) (n : ℕ) (o : Options)
   others-few m =
       omega (arith, wider-pass (λ v. isDis v && not (eqb v m)) isDis 256 (λ v h e. and-left (isDis v) (not (eqb v m)) e), disputed-few)
 
+  before-most : (v w : ℕ) → comesBefore lim shifted anchors n t v w ≡ true → votesFor shifted w ≤ votesFor shifted v
+  unfolding comesBefore
+  before-most v w e = above-most (votesFor shifted v) (votesFor shifted w) _ e
+
   on-highest :
       (g : List Candidate)
       → g ≡ among isDis make 256
@@ -113,6 +117,8 @@ module _ (lim number : ℕ) (shifted anchors : List ℕ) (n : ℕ) (o : Options)
       let m : ℕ = l .at in
       let rest : members (Others m) g ≡ among (λ v. isDis v && not (eqb v m)) make 256 =
       ap (keep (belongs (Others m))) e ∙ kept-among make isDis (belongs (Others m)) 256 in
+      let before : (v : ℕ) → Other shifted m v → isDis v ≡ true → comesBefore lim shifted anchors n t m v ≡ true =
+      λ v q d. sym (made-outranks lim shifted anchors n t m v (l .small) (q .stands .byte) bytes) ∙ l .rest v (q .stands .byte) d (q .differs) in
       subst
       (λ (x : Candidate).
       Meaning lim number shifted anchors n o
@@ -125,8 +131,8 @@ module _ (lim number : ℕ) (shifted anchors : List ℕ) (n : ℕ) (o : Options)
         stands = record { byte = l .small; candidate = disputed-stands lim shifted anchors n t m (l .passes) };
         dispute = two;
         disputed = l .passes;
-        first =
-            λ v q d. sym (made-outranks lim shifted anchors n t m v (l .small) (q .stands .byte) bytes) ∙ l .rest v (q .stands .byte) d (q .differs);
+        first = before;
+        most = λ v q d. before-most m v (before v q d);
         others =
             subst (λ (c : List Candidate). Lists (λ v. isDis v && not (eqb v m)) (bvsOf c)) (sym rest)
             (group-lists lim shifted anchors n t (λ v. isDis v && not (eqb v m)) (others-few m));

@@ -41,6 +41,10 @@ order P x y more same less = go (ℕ-discrete x y)
     go (yes e) = same e
     go (no ne) = two ne (ltb y x) refl
 
+pub above-most : (x y : ℕ) (rest : Bool) → above x y rest ≡ true → y ≤ x
+above-most x y rest e =
+    order (y ≤ x) x y (λ h. omega arith) (λ h. omega arith) (λ h. absurd (never-both (above-less x y rest h) e))
+
 above-trans :
     (x y z : ℕ) (p q r : Bool) → (p ≡ true → q ≡ true → r ≡ true) → above x y p ≡ true → above y z q ≡ true → above x z r ≡ true
 above-trans x y z p q r f a b =

@@ -32,7 +32,7 @@ use Rattle.meanings.specs.Values.{isExact, valueOf, exactSectors, votesF
 
 -- ---- candidates
 
--- v is a candidate; it is another candidate than bv
+-- v is a candidate; v is a candidate other than bv
 pub record Stands (shifted : List ℕ) (v : ℕ) : Type 0 where
   pub byte : v < 256
   pub candidate : standsFor shifted v ≡ true
@@ -60,14 +60,14 @@ topValue shifted = topOf (countsOf shifted)
 unfoldable pub isStrong : List ℕ → List ℕ → ℕ → Bool
 isStrong shifted anchors v = leb 2 (votesFor shifted v) || (isIn v anchors && eqb v (topValue shifted))
 
--- "Two or more verified: ambiguous among them. One verified: .. ambiguous among rivals and it. .. Two or more voted values: ambiguous among them"
+-- "Two or more verified: ambiguous among them. One verified: .. ambiguous among rivals and it. .. Two or more voted values: ambiguous among them".
+-- These are the values in each case; there is a dispute where they are two or more
 unfoldable pub isDisputed : ℕ → List ℕ → List ℕ → ℕ → ℕ → ℕ → Bool
 isDisputed lim shifted anchors n t v =
     standsFor shifted v
     && pick (leb 2 (verifiedNumber lim shifted n t)) (isVerified lim shifted n t v)
     (pick (eqb (verifiedNumber lim shifted n t) 1) (isVerified lim shifted n t v || isStrong shifted anchors v) (ltb 0 (votesFor shifted v)))
 
--- there is a dispute where two or more values are disputed
 unfoldable pub disputedNumber : ℕ → List ℕ → List ℕ → ℕ → ℕ → ℕ
 disputedNumber lim shifted anchors n t = howMany (isDisputed lim shifted anchors n t) 256
 
@@ -105,7 +105,7 @@ pub record Agreed (lim : ℕ) (shifted : List ℕ) (n t bv : ℕ) : Type 0 where
   pub two : 2 ≤ exactSectors shifted
   pub all : (s : ℕ) → s < 8 → isExact shifted s ≡ true → valueOf shifted s ≡ bv
 
--- rule 3. "One vote in all, for the top, anchored, no other candidate voted or anchored"
+-- rule 3. "One vote in all, for the top, anchored, no other candidate voted or anchored": the one vote is v's, so no other value has one
 pub record Corroborates (shifted anchors : List ℕ) (v : ℕ) : Type 0 where
   pub one : exactSectors shifted ≡ 1
   pub vote : votesFor shifted v ≡ 1
@@ -175,6 +175,7 @@ module _ (lim number : ℕ) (shifted anchors : List ℕ) (n : ℕ) (o : Options)
         → Other shifted (c .bv) v
         → isDisputed lim shifted anchors n t v ≡ true
         → comesBefore lim shifted anchors n t (c .bv) v ≡ true
+    pub most : (v : ℕ) → Other shifted (c .bv) v → isDisputed lim shifted anchors n t v ≡ true → votesFor shifted v ≤ votesFor shifted (c .bv)
     pub others : Lists (λ v. isDisputed lim shifted anchors n t v && not (eqb v (c .bv))) (c .group)
 
   -- answer 5, with what is disputed beside it
@@ -223,7 +224,7 @@ module _ (lim number : ℕ) (shifted anchors : List ℕ) (n : ℕ) (o : Options)
     too-many : TooMany → Meaning
     wrong-length : WrongLength → Meaning
 
-  -- what a source and an answer say of the page
+  -- what its source, or its answer, says of the page
   pub record Said : Type 0 where
     pub row-count : c .source ≡ source.TrailerRowCount → ByRowCount
     pub exact-sectors : c .source ≡ source.ExactSectors → ByExactSectors
@@ -234,7 +235,7 @@ module _ (lim number : ℕ) (shifted anchors : List ℕ) (n : ℕ) (o : Options)
     pub too-many : numberOf (c .answer) ≡ 15 → TooMany
     pub wrong-length : numberOf (c .answer) ≡ 2 → WrongLength
 
-  -- what a page makes of the choice
+  -- which page has which choice
   pub record Made : Type 0 where
     pub row-count : Asked shifted → (bv : ℕ) → SoleVerified lim shifted anchors n t bv → ByRowCount × (c .bv ≡ bv)
     pub exact-sectors : Asked shifted → (bv : ℕ) → Agreed lim shifted n t bv → ByExactSectors × (c .bv ≡ bv)
