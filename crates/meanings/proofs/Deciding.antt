@@ -20,46 +20,46 @@ use Rattle.meanings.proofs.Voting.{votes-apart}
 use Rattle.meanings.proofs.Outcomes.{disputed-one, disputed-voted, disputed-stands}
 
 module _ (lim : ℕ) (shifted anchors : List ℕ) (n t : ℕ) where
-  abbrev isVer : ℕ → Bool
-  isVer v = isVerified lim shifted n t v
+  abbrev tested : ℕ → Bool
+  tested v = isVerified lim shifted n t v
 
-  abbrev isBoth : ℕ → Bool
-  isBoth v = standsFor shifted v && isVer v
+  abbrev standsTested : ℕ → Bool
+  standsTested v = standsFor shifted v && tested v
 
-  abbrev isDis : ℕ → Bool
-  isDis v = isDisputed lim shifted anchors n t v
+  abbrev inDispute : ℕ → Bool
+  inDispute v = isDisputed lim shifted anchors n t v
 
   pub none-number : NoneVerified lim shifted n t → verifiedNumber lim shifted n t ≡ 0
   unfolding verifiedNumber
   none-number q =
-      all-fail isBoth 256
-      (λ v h. and-not-both (standsFor shifted v) (isVer v) (λ s e. never-both (q .none v (record { byte = h; candidate = s })) e))
+      all-fail standsTested 256
+      (λ v h. and-not-both (standsFor shifted v) (tested v) (λ s e. never-both (q .none v (record { byte = h; candidate = s })) e))
 
   -- ---- one is verified, and has no rival
 
   module _ (bv : ℕ) (q : SoleVerified lim shifted anchors n t bv) where
-    pub sole-verified : isVer bv ≡ true
+    pub sole-verified : tested bv ≡ true
     unfolding isVerified
     sole-verified = and-yes (ltb 0 n) (rowCountMatches lim (plainOf bv shifted) n t) (lt-ltb 0 n (q .rows)) (q .passes)
 
     other : (v : ℕ) → v < 256 → standsFor shifted v ≡ true → (v ≡ bv → ⊥) → Other shifted bv v
     other v h s ne = record { stands = record { byte = h; candidate = s }; differs = ne }
 
-    pub sole-is : (v : ℕ) → v < 256 → isBoth v ≡ true → v ≡ bv
+    pub sole-is : (v : ℕ) → v < 256 → standsTested v ≡ true → v ≡ bv
     sole-is v h e = go (ℕ-discrete v bv)
       where
         go : Dec (v ≡ bv) → v ≡ bv
         go (yes d) = d
         go (no ne) =
-            absurd (never-both (q .alone v (other v h (and-left (standsFor shifted v) (isVer v) e) ne)) (and-right (standsFor shifted v) (isVer v) e))
+            absurd (never-both (q .alone v (other v h (and-left (standsFor shifted v) (tested v) e) ne)) (and-right (standsFor shifted v) (tested v) e))
 
     pub sole-number : verifiedNumber lim shifted n t ≡ 1
     unfolding verifiedNumber
     sole-number =
         omega (
           arith,
-          some-pass isBoth 256 bv (q .stands .byte) (and-yes (standsFor shifted bv) (isVer bv) (q .stands .candidate) sole-verified),
-          all-equal isBoth 256 (λ j k l m e f. sole-is j l e ∙ sym (sole-is k m f)),
+          some-pass standsTested 256 bv (q .stands .byte) (and-yes (standsFor shifted bv) (tested bv) (q .stands .candidate) sole-verified),
+          all-equal standsTested 256 (λ j k l m e f. sole-is j l e ∙ sym (sole-is k m f)),
         )
 
     weak : (v : ℕ) → Other shifted bv v → isStrong shifted anchors v ≡ false
@@ -69,7 +69,7 @@ module _ (lim : ℕ) (shifted anchors : List ℕ) (n t : ℕ) where
         (and-not-both (isIn v anchors) (eqb v (topValue shifted))
         (λ i e. never-both (q .unanchored v d (eqb-true v (topValue shifted) e)) i))
 
-    sole-disputed : (v : ℕ) → v < 256 → isDis v ≡ true → v ≡ bv
+    sole-disputed : (v : ℕ) → v < 256 → inDispute v ≡ true → v ≡ bv
     sole-disputed v h e = go (ℕ-discrete v bv)
       where
         go : Dec (v ≡ bv) → v ≡ bv
@@ -78,16 +78,16 @@ module _ (lim : ℕ) (shifted anchors : List ℕ) (n t : ℕ) where
             let d : Other shifted bv v = other v h (disputed-stands lim shifted anchors n t v e) ne in
             absurd
             (never-both (ap₂ _||_ (q .alone v d) (weak v d))
-            (and-right (standsFor shifted v) (isVer v || isStrong shifted anchors v) (sym (disputed-one lim shifted anchors n t v sole-number) ∙ e)))
+            (and-right (standsFor shifted v) (tested v || isStrong shifted anchors v) (sym (disputed-one lim shifted anchors n t v sole-number) ∙ e)))
 
     pub sole-undisputed : disputedNumber lim shifted anchors n t ≤ 1
     unfolding disputedNumber
-    sole-undisputed = all-equal isDis 256 (λ j k l m e f. sole-disputed j l e ∙ sym (sole-disputed k m f))
+    sole-undisputed = all-equal inDispute 256 (λ j k l m e f. sole-disputed j l e ∙ sym (sole-disputed k m f))
 
   -- ---- none is verified, and no two values are voted for
 
   module _ (zero : verifiedNumber lim shifted n t ≡ 0) where
-    voted-for : (v : ℕ) → isDis v ≡ true → 0 < votesFor shifted v
+    voted-for : (v : ℕ) → inDispute v ≡ true → 0 < votesFor shifted v
     voted-for v e =
         ltb-true 0 (votesFor shifted v) (and-right (standsFor shifted v) (ltb 0 (votesFor shifted v)) (sym (disputed-voted lim shifted anchors n t v zero) ∙ e))
 
@@ -95,7 +95,7 @@ module _ (lim : ℕ) (shifted anchors : List ℕ) (n t : ℕ) where
         ((v w : ℕ) → (v ≡ w → ⊥) → 0 < votesFor shifted v → 0 < votesFor shifted w → ⊥) → disputedNumber lim shifted anchors n t ≤ 1
     unfolding disputedNumber
     unvoted-undisputed apart =
-        all-equal isDis 256 (λ j k l m e f. go j k (voted-for j e) (voted-for k f) (ℕ-discrete j k))
+        all-equal inDispute 256 (λ j k l m e f. go j k (voted-for j e) (voted-for k f) (ℕ-discrete j k))
       where
         go : (j k : ℕ) → 0 < votesFor shifted j → 0 < votesFor shifted k → Dec (j ≡ k) → j ≡ k
         go j k e f (yes d) = d

@@ -31,13 +31,16 @@ use Rattle.votes.proofs.Tests.{lt-cases}
 use Rattle.groups.specs.declared.Group.the-variants.{Verified, Voted, Only, Others, Rivals, Contest, Supported}
 use Rattle.groups.specs.Groups.{firstOf, belongs, members, group, highestOf, bvsOf}
 use Rattle.choice.specs.declared.Choice.{Choice}
-use Rattle.choice.specs.Rules.{takenOf, refusedOf, ambiguousOf, unverifiedOf, topCandidate, isCorroborated, ruleThree, isCalibrated, ruleTwo, soleOf, ruleOne, chosen, choiceOf}
+use Rattle.choice.specs.Rules.{takenOf, refusedOf, ambiguousOf, unverifiedOf, topCandidate, isCorroborated, isCalibrated}
+use Rattle.choice.specs.Rules.{ruleThree, ruleTwo, soleOf, ruleOne, chosen, choiceOf}
 use Rattle.meanings.specs.Values.{exactSectors, votesFor, standsFor}
-use Rattle.meanings.specs.Sources.{Stands, Other, candidateNumber, verifiedNumber, NoneVerified, isStrong, isDisputed, disputedNumber, comesBefore, Lists, Corroborates, Meaning}
+use Rattle.meanings.specs.Sources.{Stands, Other, candidateNumber, verifiedNumber, NoneVerified, isStrong, isDisputed, disputedNumber}
+use Rattle.meanings.specs.Sources.{comesBefore, Lists, Corroborates, Meaning}
 use Rattle.meanings.proofs.Values.{ballots-number}
 use Rattle.meanings.proofs.Passing.{some-pass, none-pass, all-fail, only-one, both-pass, wider-pass, among-ext, kept-among, First, first-passes}
 use Rattle.meanings.proofs.Voting.{voted-stands, vote-alone, none-exact, all-agree, votes-apart}
-use Rattle.meanings.proofs.Standing.{made, assessment, made-bv, made-verified, made-votes, made-voted, made-rival, made-contest, made-supported, made-outranks, group-as, candidates-few, many-candidates}
+use Rattle.meanings.proofs.Standing.{made, assessment, group-as, candidates-few, many-candidates}
+use Rattle.meanings.proofs.Standing.{made-bv, made-verified, made-votes, made-voted, made-rival, made-contest, made-supported, made-outranks}
 use Rattle.meanings.proofs.BvTable.{group-lists}
 use Rattle.meanings.proofs.Ranking.{above-most, Highest, highest-passes}
 
@@ -78,26 +81,26 @@ module _ (lim number : ℕ) (shifted anchors : List ℕ) (n : ℕ) (o : Options)
   abbrev make : ℕ → Candidate
   make v = made lim shifted anchors n t v
 
-  abbrev isVer : ℕ → Bool
-  isVer v = isVerified lim shifted n t v
+  abbrev tested : ℕ → Bool
+  tested v = isVerified lim shifted n t v
 
-  abbrev isDis : ℕ → Bool
-  isDis v = isDisputed lim shifted anchors n t v
+  abbrev inDispute : ℕ → Bool
+  inDispute v = isDisputed lim shifted anchors n t v
 
   -- ---- a dispute
 
-  disputed-few : howMany isDis 256 ≤ 8
+  disputed-few : howMany inDispute 256 ≤ 8
   unfolding candidateNumber
   disputed-few =
       omega (
         arith,
-        wider-pass isDis (standsFor shifted) 256 (λ v h e. disputed-stands lim shifted anchors n t v e),
+        wider-pass inDispute (standsFor shifted) 256 (λ v h e. disputed-stands lim shifted anchors n t v e),
         candidates-few lim shifted anchors n t few,
       )
 
-  others-few : (m : ℕ) → howMany (λ v. isDis v && not (eqb v m)) 256 ≤ 8
+  others-few : (m : ℕ) → howMany (λ v. inDispute v && not (eqb v m)) 256 ≤ 8
   others-few m =
-      omega (arith, wider-pass (λ v. isDis v && not (eqb v m)) isDis 256 (λ v h e. and-left (isDis v) (not (eqb v m)) e), disputed-few)
+      omega (arith, wider-pass (λ v. inDispute v && not (eqb v m)) inDispute 256 (λ v h e. and-left (inDispute v) (not (eqb v m)) e), disputed-few)
 
   before-most : (v w : ℕ) → comesBefore lim shifted anchors n t v w ≡ true → votesFor shifted w ≤ votesFor shifted v
   unfolding comesBefore
@@ -105,19 +108,19 @@ module _ (lim number : ℕ) (shifted anchors : List ℕ) (n : ℕ) (o : Options)
 
   on-highest :
       (g : List Candidate)
-      → g ≡ among isDis make 256
+      → g ≡ among inDispute make 256
       → 2 ≤ disputedNumber lim shifted anchors n t
       → keystream o ≡ true
       → (h : Candidate)
-      → Highest make (made-bv lim shifted anchors n t) isDis h
+      → Highest make (made-bv lim shifted anchors n t) inDispute h
       → Meaning lim number shifted anchors n o
       (takenOf a h source.Histogram confidence.Unverified (warning.AmbiguousCalibration (h .bv)) (bvsOf (members (Others (h .bv)) g)))
   unfolding takenOf candidateOf
   on-highest g e two k h l =
       let m : ℕ = l .at in
-      let rest : members (Others m) g ≡ among (λ v. isDis v && not (eqb v m)) make 256 =
-      ap (keep (belongs (Others m))) e ∙ kept-among make isDis (belongs (Others m)) 256 in
-      let before : (v : ℕ) → Other shifted m v → isDis v ≡ true → comesBefore lim shifted anchors n t m v ≡ true =
+      let rest : members (Others m) g ≡ among (λ v. inDispute v && not (eqb v m)) make 256 =
+      ap (keep (belongs (Others m))) e ∙ kept-among make inDispute (belongs (Others m)) 256 in
+      let before : (v : ℕ) → Other shifted m v → inDispute v ≡ true → comesBefore lim shifted anchors n t m v ≡ true =
       λ v q d. sym (made-outranks lim shifted anchors n t m v (l .small) (q .stands .byte) bytes) ∙ l .rest v (q .stands .byte) d (q .differs) in
       subst
       (λ (x : Candidate).
@@ -134,27 +137,31 @@ module _ (lim number : ℕ) (shifted anchors : List ℕ) (n : ℕ) (o : Options)
         first = before;
         most = λ v q d. before-most m v (before v q d);
         others =
-            subst (λ (c : List Candidate). Lists (λ v. isDis v && not (eqb v m)) (bvsOf c)) (sym rest)
-            (group-lists lim shifted anchors n t (λ v. isDis v && not (eqb v m)) (others-few m));
+            subst (λ (c : List Candidate). Lists (λ v. inDispute v && not (eqb v m)) (bvsOf c)) (sym rest)
+            (group-lists lim shifted anchors n t (λ v. inDispute v && not (eqb v m)) (others-few m));
       }))
 
-  on-dispute : (g : List Candidate) → g ≡ among isDis make 256 → 2 ≤ length g → Meaning lim number shifted anchors n o (ambiguousOf number (keystream o) a g)
+  on-dispute :
+      (g : List Candidate)
+      → g ≡ among inDispute make 256
+      → 2 ≤ length g
+      → Meaning lim number shifted anchors n o (ambiguousOf number (keystream o) a g)
   unfolding ambiguousOf refusedOf disputedNumber
   on-dispute g e two =
-      let size : length g ≡ howMany isDis 256 = ap length e ∙ among-length isDis make 256 in
+      let size : length g ≡ howMany inDispute 256 = ap length e ∙ among-length inDispute make 256 in
       let many : 2 ≤ disputedNumber lim shifted anchors n t = omega (arith, size) in
-      let best : Highest make (made-bv lim shifted anchors n t) isDis (highestOf (among isDis make 256)) =
-      highest-passes make (made-bv lim shifted anchors n t) isDis (omega (arith, size)) in
+      let best : Highest make (made-bv lim shifted anchors n t) inDispute (highestOf (among inDispute make 256)) =
+      highest-passes make (made-bv lim shifted anchors n t) inDispute (omega (arith, size)) in
       pick-case (Meaning lim number shifted anchors n o) (keystream o) _ _
       (λ k.
-      on-highest g e many k (highestOf g) (subst (λ (l : List Candidate). Highest make (made-bv lim shifted anchors n t) isDis (highestOf l)) (sym e) best))
+      on-highest g e many k (highestOf g) (subst (λ (l : List Candidate). Highest make (made-bv lim shifted anchors n t) inDispute (highestOf l)) (sym e) best))
       (λ k.
       Meaning.ambiguous
       (record {
         marked = record { answered = refl; from = refl; trusted = refl; warned = refl };
         strict = k;
         dispute = many;
-        listed = subst (λ (l : List Candidate). Lists isDis (bvsOf l)) (sym e) (group-lists lim shifted anchors n t isDis disputed-few);
+        listed = subst (λ (l : List Candidate). Lists inDispute (bvsOf l)) (sym e) (group-lists lim shifted anchors n t inDispute disputed-few);
       }))
 
   -- ---- rule 4, and rule 3: the top as a candidate
@@ -176,16 +183,16 @@ module _ (lim number : ℕ) (shifted anchors : List ℕ) (n : ℕ) (o : Options)
       (some-pass p 256 top (top-stands .byte) (and-yes (standsFor shifted top) (eqb top top) (top-stands .candidate) (eq-eqb top top refl))) in
       ap firstOf e ∙ r .first ∙ ap make (eqb-true (r .at) top (and-right (standsFor shifted (r .at)) (eqb (r .at) top) (r .passes)))
 
-  abbrev isSup : ℕ → Bool
-  isSup v = standsFor shifted v && (not (eqb v top) && (ltb 0 (votesFor shifted v) || isIn v anchors))
+  abbrev backed : ℕ → Bool
+  backed v = standsFor shifted v && (not (eqb v top) && (ltb 0 (votesFor shifted v) || isIn v anchors))
 
-  supported : group (Supported top) a ≡ among isSup make 256
+  supported : group (Supported top) a ≡ among backed make 256
   supported =
-      group-as lim shifted anchors n t few (Supported top) isSup
+      group-as lim shifted anchors n t few (Supported top) backed
       (λ v h. ap (λ (b : Bool). standsFor shifted v && b) (made-supported lim shifted anchors n t v h top))
 
-  support-number : length (group (Supported top) a) ≡ howMany isSup 256
-  support-number = ap length supported ∙ among-length isSup make 256
+  support-number : length (group (Supported top) a) ≡ howMany backed 256
+  support-number = ap length supported ∙ among-length backed make 256
 
   corroborated-means : isCorroborated a (make top) ≡ true → Corroborates shifted anchors top
   unfolding isCorroborated candidateOf assessmentOf
@@ -194,7 +201,7 @@ module _ (lim number : ℕ) (shifted anchors : List ℕ) (n : ℕ) (o : Options)
       let votes : Bool = eqb (make top .votes) 1 in
       let behind : (votes && (isIn top anchors && rest)) ≡ true = and-right (eqb (length (ballots shifted)) 1) _ e in
       let anchor : (isIn top anchors && rest) ≡ true = and-right votes _ behind in
-      let none : howMany isSup 256 ≡ 0 =
+      let none : howMany backed 256 ≡ 0 =
       omega (arith, support-number, eqb-true (length (group (Supported top) a)) 0 (and-right (isIn top anchors) rest anchor)) in
       record {
         one = sym (ballots-number shifted) ∙ eqb-true (length (ballots shifted)) 1 (and-left (eqb (length (ballots shifted)) 1) _ e);
@@ -205,19 +212,19 @@ module _ (lim number : ℕ) (shifted anchors : List ℕ) (n : ℕ) (o : Options)
             λ w q.
             or-no-right (ltb 0 (votesFor shifted w)) (isIn w anchors)
             (and-rest (not (eqb w top)) _ (ap not (ne-eqb w top (q .differs)))
-            (and-rest (standsFor shifted w) _ (q .stands .candidate) (none-pass isSup 256 none w (q .stands .byte))));
+            (and-rest (standsFor shifted w) _ (q .stands .candidate) (none-pass backed 256 none w (q .stands .byte))));
       }
 
   corroborates-is : Corroborates shifted anchors top → isCorroborated a (make top) ≡ true
   unfolding isCorroborated candidateOf assessmentOf
   corroborates-is q =
-      let fails : (v : ℕ) → v < 256 → isSup v ≡ false = λ v h. unsupported v h (ℕ-discrete v top) (standsFor shifted v) refl in
-      let none : length (group (Supported top) a) ≡ 0 = support-number ∙ all-fail isSup 256 fails in
+      let fails : (v : ℕ) → v < 256 → backed v ≡ false = λ v h. unsupported v h (ℕ-discrete v top) (standsFor shifted v) refl in
+      let none : length (group (Supported top) a) ≡ 0 = support-number ∙ all-fail backed 256 fails in
       and-yes (eqb (length (ballots shifted)) 1) _ (eq-eqb (length (ballots shifted)) 1 (ballots-number shifted ∙ q .one))
       (and-yes (eqb (make top .votes) 1) _ (eq-eqb (make top .votes) 1 (made-votes lim shifted anchors n t top (top-stands .byte) ∙ q .vote))
       (and-yes (isIn top anchors) _ (q .anchored) (eq-eqb (length (group (Supported top) a)) 0 none)))
     where
-      unsupported : (v : ℕ) → v < 256 → Dec (v ≡ top) → (b : Bool) → standsFor shifted v ≡ b → isSup v ≡ false
+      unsupported : (v : ℕ) → v < 256 → Dec (v ≡ top) → (b : Bool) → standsFor shifted v ≡ b → backed v ≡ false
       unsupported v h d false s = rw s
       unsupported v h (yes e) true s = rw (s, eq-eqb v top e)
       unsupported v h (no ne) true s =
@@ -281,25 +288,25 @@ module _ (lim number : ℕ) (shifted anchors : List ℕ) (n : ℕ) (o : Options)
     unfolding verifiedNumber
     none-verified =
         record {
-          none = λ v s. and-rest (standsFor shifted v) _ (s .candidate) (none-pass (λ v. standsFor shifted v && isVer v) 256 zero v (s .byte));
+          none = λ v s. and-rest (standsFor shifted v) _ (s .candidate) (none-pass (λ v. standsFor shifted v && tested v) 256 zero v (s .byte));
         }
 
-    voted : group Voted a ≡ among isDis make 256
+    voted : group Voted a ≡ among inDispute make 256
     voted =
-        group-as lim shifted anchors n t few Voted isDis
+        group-as lim shifted anchors n t few Voted inDispute
         (λ v h.
         ap (λ (b : Bool). standsFor shifted v && b) (made-voted lim shifted anchors n t v h) ∙ sym (disputed-voted lim shifted anchors n t v zero))
 
-    voted-number : length (group Voted a) ≡ howMany isDis 256
-    voted-number = ap length voted ∙ among-length isDis make 256
+    voted-number : length (group Voted a) ≡ howMany inDispute 256
+    voted-number = ap length voted ∙ among-length inDispute make 256
 
-    voted-disputed : (v : ℕ) → v < 256 → 0 < votesFor shifted v → isDis v ≡ true
+    voted-disputed : (v : ℕ) → v < 256 → 0 < votesFor shifted v → inDispute v ≡ true
     voted-disputed v h k =
         disputed-voted lim shifted anchors n t v zero
         ∙ and-yes (standsFor shifted v) _ (voted-stands shifted v h k) (lt-ltb 0 (votesFor shifted v) k)
 
     -- one voted value
-    module _ (few-voted : length (group Voted a) < 2) (r : First make isDis blankCandidate 256) where
+    module _ (few-voted : length (group Voted a) < 2) (r : First make inDispute blankCandidate 256) where
       first-made : firstOf (group Voted a) ≡ make (r .at)
       first-made = ap firstOf voted ∙ r .first
 
@@ -309,7 +316,7 @@ module _ (lim number : ℕ) (shifted anchors : List ℕ) (n : ℕ) (o : Options)
           go : Dec (v ≡ r .at) → v ≡ r .at
           go (yes e) = e
           go (no ne) =
-              absurd (never-both (only-one isDis 256 (r .at) (omega (arith, voted-number)) (r .below) (r .passes) v h ne) (voted-disputed v h k))
+              absurd (never-both (only-one inDispute 256 (r .at) (omega (arith, voted-number)) (r .below) (r .passes) v h ne) (voted-disputed v h k))
 
       votes-all : votesFor shifted (r .at) ≡ exactSectors shifted
       votes-all = all-agree shifted (r .at) (vote-alone shifted long bytes (r .at) only-voted)
@@ -347,7 +354,7 @@ module _ (lim number : ℕ) (shifted anchors : List ℕ) (n : ℕ) (o : Options)
       where
         some : 0 < length (group Voted a) → exactSectors shifted ≤ 1
         some k =
-            let r : First make isDis blankCandidate 256 = first-passes make isDis blankCandidate 256 (omega (arith, voted-number)) in
+            let r : First make inDispute blankCandidate 256 = first-passes make inDispute blankCandidate 256 (omega (arith, voted-number)) in
             let one : eqb (length (group Voted a)) 1 ≡ true = eq-eqb (length (group Voted a)) 1 (omega arith) in
             omega (arith, first-votes h r, leb-false 2 (firstOf (group Voted a) .votes) (and-rest (eqb (length (group Voted a)) 1) _ one e))
 
@@ -356,7 +363,7 @@ module _ (lim number : ℕ) (shifted anchors : List ℕ) (n : ℕ) (o : Options)
             omega (
               arith,
               none-exact shifted long bytes
-                  (λ v l j. never-both (none-pass isDis 256 (omega (arith, voted-number)) v l) (voted-disputed v l j)),
+                  (λ v l j. never-both (none-pass inDispute 256 (omega (arith, voted-number)) v l) (voted-disputed v l j)),
             )
 
     on-two : Meaning lim number shifted anchors n o (ruleTwo number (keystream o) a)
@@ -371,87 +378,92 @@ module _ (lim number : ℕ) (shifted anchors : List ℕ) (n : ℕ) (o : Options)
         pick-case (Meaning lim number shifted anchors n o) (isCalibrated (length (group Voted a)) (group Voted a)) one (ruleThree number (keystream o) a)
         (λ f.
         let size : length (group Voted a) ≡ 1 = eqb-true (length (group Voted a)) 1 (and-left (eqb (length (group Voted a)) 1) _ f) in
-        on-calibrated h (first-passes make isDis blankCandidate 256 (omega (arith, voted-number))) (and-right (eqb (length (group Voted a)) 1) _ f))
+        on-calibrated h (first-passes make inDispute blankCandidate 256 (omega (arith, voted-number))) (and-right (eqb (length (group Voted a)) 1) _ f))
         (λ f. on-three none-verified (few-exact h f)))
 
   -- ---- rule 1
 
-  abbrev isBoth : ℕ → Bool
-  isBoth v = standsFor shifted v && isVer v
+  abbrev standsTested : ℕ → Bool
+  standsTested v = standsFor shifted v && tested v
 
-  verified : group Verified a ≡ among isBoth make 256
+  verified : group Verified a ≡ among standsTested make 256
   verified =
-      group-as lim shifted anchors n t few Verified isBoth (λ v h. ap (λ (b : Bool). standsFor shifted v && b) (made-verified lim shifted anchors n t v))
+      group-as lim shifted anchors n t few Verified standsTested (λ v h. ap (λ (b : Bool). standsFor shifted v && b) (made-verified lim shifted anchors n t v))
 
   verified-count : length (group Verified a) ≡ verifiedNumber lim shifted n t
   unfolding verifiedNumber
-  verified-count = ap length verified ∙ among-length isBoth make 256
+  verified-count = ap length verified ∙ among-length standsTested make 256
 
-  several : 2 ≤ verifiedNumber lim shifted n t → group Verified a ≡ among isDis make 256
-  several h = verified ∙ among-ext make isBoth isDis 256 (λ v k. sym (disputed-several lim shifted anchors n t v h))
+  several : 2 ≤ verifiedNumber lim shifted n t → group Verified a ≡ among inDispute make 256
+  several h = verified ∙ among-ext make standsTested inDispute 256 (λ v k. sym (disputed-several lim shifted anchors n t v h))
 
   -- one is verified
-  module _ (k : ℕ) (small : k < 256) (both : isBoth k ≡ true) (one : verifiedNumber lim shifted n t ≡ 1) where
+  module _ (k : ℕ) (small : k < 256) (both : standsTested k ≡ true) (one : verifiedNumber lim shifted n t ≡ 1) where
     k-stands : standsFor shifted k ≡ true
-    k-stands = and-left (standsFor shifted k) (isVer k) both
+    k-stands = and-left (standsFor shifted k) (tested k) both
 
-    k-verified : isVer k ≡ true
-    k-verified = and-right (standsFor shifted k) (isVer k) both
+    k-verified : tested k ≡ true
+    k-verified = and-right (standsFor shifted k) (tested k) both
 
-    others-not : (v : ℕ) → Other shifted k v → isVer v ≡ false
+    others-not : (v : ℕ) → Other shifted k v → tested v ≡ false
     unfolding verifiedNumber
     others-not v q =
-        and-rest (standsFor shifted v) (isVer v) (q .stands .candidate)
-        (only-one isBoth 256 k (omega (arith, one)) small both v (q .stands .byte) (q .differs))
+        and-rest (standsFor shifted v) (tested v) (q .stands .candidate)
+        (only-one standsTested 256 k (omega (arith, one)) small both v (q .stands .byte) (q .differs))
 
-    abbrev isRiv : ℕ → Bool
-    isRiv v = standsFor shifted v && (not (eqb v k) && isStrong shifted anchors v)
+    abbrev rival : ℕ → Bool
+    rival v = standsFor shifted v && (not (eqb v k) && isStrong shifted anchors v)
 
-    rivals : group (Rivals k (a .top)) a ≡ among isRiv make 256
+    rivals : group (Rivals k (a .top)) a ≡ among rival make 256
     rivals =
-        group-as lim shifted anchors n t few (Rivals k (a .top)) isRiv
+        group-as lim shifted anchors n t few (Rivals k (a .top)) rival
         (λ v h. ap (λ (b : Bool). standsFor shifted v && b) (made-rival lim shifted anchors n t v h k))
 
-    rivals-number : length (group (Rivals k (a .top)) a) ≡ howMany isRiv 256
-    rivals-number = ap length rivals ∙ among-length isRiv make 256
+    rivals-number : length (group (Rivals k (a .top)) a) ≡ howMany rival 256
+    rivals-number = ap length rivals ∙ among-length rival make 256
 
     -- it and its rivals are those that are verified or strong
     contest-same :
-        (v : ℕ) → v < 256 → Dec (v ≡ k) → (b : Bool) → standsFor shifted v ≡ b
-        → (standsFor shifted v && (eqb v k || (not (eqb v k) && isStrong shifted anchors v))) ≡ (standsFor shifted v && (isVer v || isStrong shifted anchors v))
+        (v : ℕ)
+        → v < 256
+        → Dec (v ≡ k)
+        → (b : Bool)
+        → standsFor shifted v ≡ b
+        → (standsFor shifted v && (eqb v k || (not (eqb v k) && isStrong shifted anchors v)))
+        ≡ (standsFor shifted v && (tested v || isStrong shifted anchors v))
     contest-same v h d false s = rw s
-    contest-same v h (yes e) true s = rw (s, eq-eqb v k e, ap isVer e, k-verified)
+    contest-same v h (yes e) true s = rw (s, eq-eqb v k e, ap tested e, k-verified)
     contest-same v h (no ne) true s = rw (s, ne-eqb v k ne, others-not v (record { stands = record { byte = h; candidate = s }; differs = ne }))
 
-    contest : group (Contest k (a .top)) a ≡ among isDis make 256
+    contest : group (Contest k (a .top)) a ≡ among inDispute make 256
     contest =
-        group-as lim shifted anchors n t few (Contest k (a .top)) isDis
+        group-as lim shifted anchors n t few (Contest k (a .top)) inDispute
         (λ v h.
         ap (λ (b : Bool). standsFor shifted v && b) (made-contest lim shifted anchors n t v h k)
         ∙ contest-same v h (ℕ-discrete v k) (standsFor shifted v) refl
         ∙ sym (disputed-one lim shifted anchors n t v one))
 
-    rival-disputed : (v : ℕ) → isRiv v ≡ true → (isDis v ≡ true) × (v ≡ k → ⊥)
+    rival-disputed : (v : ℕ) → rival v ≡ true → (inDispute v ≡ true) × (v ≡ k → ⊥)
     rival-disputed v e =
         let rest : (not (eqb v k) && isStrong shifted anchors v) ≡ true = and-right (standsFor shifted v) (not (eqb v k) && isStrong shifted anchors v) e in (
           disputed-one lim shifted anchors n t v one
-              ∙ and-yes (standsFor shifted v) (isVer v || isStrong shifted anchors v)
+              ∙ and-yes (standsFor shifted v) (tested v || isStrong shifted anchors v)
               (and-left (standsFor shifted v) (not (eqb v k) && isStrong shifted anchors v) e)
-              (or-yes-right (isVer v) (isStrong shifted anchors v) (and-right (not (eqb v k)) (isStrong shifted anchors v) rest)),
+              (or-yes-right (tested v) (isStrong shifted anchors v) (and-right (not (eqb v k)) (isStrong shifted anchors v) rest)),
           λ q. never-both (ap not (eq-eqb v k q)) (and-left (not (eqb v k)) (isStrong shifted anchors v) rest),
         )
 
-    itself-disputed : isDis k ≡ true
+    itself-disputed : inDispute k ≡ true
     itself-disputed = disputed-one lim shifted anchors n t k one ∙ ap₂ (λ (x y : Bool). x && (y || isStrong shifted anchors k)) k-stands k-verified
 
     contest-two : (length (group (Rivals k (a .top)) a) ≡ 0 → ⊥) → 2 ≤ length (group (Contest k (a .top)) a)
     contest-two some =
-        let r : First make isRiv blankCandidate 256 = first-passes make isRiv blankCandidate 256 (omega (arith, rivals-number, some)) in
+        let r : First make rival blankCandidate 256 = first-passes make rival blankCandidate 256 (omega (arith, rivals-number, some)) in
         omega (
           arith,
           ap length contest,
-          among-length isDis make 256,
-          both-pass isDis 256 (r .at) k (r .below) small (rival-disputed (r .at) (r .passes) .1) (rival-disputed (r .at) (r .passes) .0) itself-disputed,
+          among-length inDispute make 256,
+          both-pass inDispute 256 (r .at) k (r .below) small (rival-disputed (r .at) (r .passes) .1) (rival-disputed (r .at) (r .passes) .0) itself-disputed,
         )
 
     on-sole : Meaning lim number shifted anchors n o (soleOf number (keystream o) a (make k))
@@ -461,11 +473,11 @@ module _ (lim number : ℕ) (shifted anchors : List ℕ) (n : ℕ) (o : Options)
         (takenOf a (make k) source.TrailerRowCount confidence.Verified warning.Nothing noBvs)
         (ambiguousOf number (keystream o) a (group (Contest k (a .top)) a))
         (λ e.
-        let none : howMany isRiv 256 ≡ 0 = sym rivals-number ∙ eqb-true (length (group (Rivals k (a .top)) a)) 0 e in
+        let none : howMany rival 256 ≡ 0 = sym rivals-number ∙ eqb-true (length (group (Rivals k (a .top)) a)) 0 e in
         let weak : (v : ℕ) → Other shifted k v → isStrong shifted anchors v ≡ false =
         λ v q.
         and-rest (not (eqb v k)) _ (ap not (ne-eqb v k (q .differs)))
-        (and-rest (standsFor shifted v) _ (q .stands .candidate) (none-pass isRiv 256 none v (q .stands .byte))) in
+        (and-rest (standsFor shifted v) _ (q .stands .candidate) (none-pass rival 256 none v (q .stands .byte))) in
         Meaning.row-count
         (record {
           marked = record { answered = refl; from = refl; trusted = refl; warned = refl };
@@ -504,8 +516,8 @@ module _ (lim number : ℕ) (shifted anchors : List ℕ) (n : ℕ) (o : Options)
       sole : eqb (length (group Verified a)) 1 ≡ true → Meaning lim number shifted anchors n o (soleOf number (keystream o) a (firstOf (group Verified a)))
       sole f =
           let one : length (group Verified a) ≡ 1 = eqb-true (length (group Verified a)) 1 f in
-          let some : 0 < howMany isBoth 256 = omega (arith, one, ap length verified, among-length isBoth make 256) in
-          let r : First make isBoth blankCandidate 256 = first-passes make isBoth blankCandidate 256 some in
+          let some : 0 < howMany standsTested 256 = omega (arith, one, ap length verified, among-length standsTested make 256) in
+          let r : First make standsTested blankCandidate 256 = first-passes make standsTested blankCandidate 256 some in
           subst (λ (c : Candidate). Meaning lim number shifted anchors n o (soleOf number (keystream o) a c)) (sym (ap firstOf verified ∙ r .first))
           (on-sole (r .at) (r .below) (r .passes) (sym verified-count ∙ one))
 
