@@ -9,3 +9,6 @@ pub mod Outcomes
 pub mod Deciding
 pub mod AllExact
 pub mod Sources
+pub mod Taken
+pub mod EvidenceTable
+pub mod Evidence

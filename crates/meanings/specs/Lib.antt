@@ -1,3 +1,4 @@
 -- What a choice of bv means.
 pub mod Values
 pub mod Sources
+pub mod Evidence

@@ -1,0 +1,287 @@
+-- THE EVIDENCE OF AN ACCEPTED CHOICE, proved. Assumes nothing.
+use Prim.Native.Nat.{ℕ, zero, suc, _-_, _≤_, _<_, max}
+use mathlib.Core.Path.{_≡_, refl, sym, ap, ap₂, _∙_, subst}
+use mathlib.Core.Bool.{Bool, true, false, not}
+use mathlib.Core.List.{List, [], _∷_, _++_, append-nil}
+use mathlib.Core.Logic.{⊎-elim}
+use native.Mathlib.Nat.{eq-or-lt-of-le, le-of-suc-le-suc}
+use native.Mathlib.Omega.{arith}
+use borrow.Author.Tests.{lt-ltb, ltb-true, ltb-false, eq-eqb, ne-eqb}
+use lib.Dec.{ltb}
+use lib.ListN.{length}
+use Rattle.lists.specs.Bytes.{plainOf, AllBytes}
+use Rattle.lists.specs.Cases.{pick}
+use Rattle.lists.specs.Counts.{isIn}
+use Rattle.lists.specs.Pieces.{among, keep, fold}
+use Rattle.lists.proofs.Booleans.{and-yes, and-left, and-right}
+use Rattle.lists.proofs.Fold.{fold-last}
+use Rattle.lists.proofs.Keep.{keep-append}
+use Rattle.lists.proofs.Picks.{never-both}
+use Rattle.answers.specs.Trust.{evidenceNumber, noGrounds, withGround, groundIf}
+use Rattle.answers.specs.declared.trust.Evidence.{Evidence}
+use Rattle.answers.specs.declared.trust.Evidence.the-variants as evidence
+use Rattle.answers.specs.declared.trust.Grounds.{Grounds}
+use Rattle.slots.specs.Slots.{rowCountMatches}
+use Rattle.votes.specs.Votes.{ballots, isVerified, candidateOf, candidatesBelow, assessmentOf}
+use Rattle.votes.specs.declared.Candidate.{Candidate}
+use Rattle.votes.specs.declared.Assessment.{Assessment}
+use Rattle.groups.specs.declared.Group.the-variants.{Others}
+use Rattle.groups.specs.Groups.{belongs, group, orZeros, mostOf}
+use Rattle.choice.specs.declared.Choice.{Choice}
+use Rattle.choice.specs.Rules.{groundsOf, choiceOf}
+use Rattle.meanings.specs.Values.{votesFor, dissentFrom, zerosWith, standsFor}
+use Rattle.meanings.specs.Evidence.{Tells, BestOther, Leads, Supports, Evidenced}
+use Rattle.meanings.proofs.Values.{ballots-number, ballots-at, exact-parted, zeros-at}
+use Rattle.meanings.proofs.Taken.{Chosen, all-listed, chosen-stands}
+use Rattle.meanings.proofs.EvidenceTable.{UpTo, Kind, up-none, up-next, up-all}
+
+-- ---- the greatest count among those that pass two tests
+
+record Met (p : ℕ → Bool) (f : ℕ → Candidate) (q : Candidate → Bool) (n m : ℕ) : Type 0 where
+  at : ℕ
+  within : at < n
+  passes : p at ≡ true
+  kept : q (f at) ≡ true
+  is : f at .zeros ≡ m
+
+record Most (p : ℕ → Bool) (f : ℕ → Candidate) (q : Candidate → Bool) (n m : ℕ) : Type 0 where
+  above : (k : ℕ) → k < n → p k ≡ true → q (f k) ≡ true → f k .zeros ≤ m
+  met : 0 < m → Met p f q n m
+
+module _ (p : ℕ → Bool) (f : ℕ → Candidate) (q : Candidate → Bool) where
+  met-later : (n m : ℕ) → Met p f q n m → Met p f q (suc n) m
+  met-later n m w = record { at = w .at; within = omega (arith, w .within); passes = w .passes; kept = w .kept; is = w .is }
+
+  -- the next number does not pass
+  most-not : (n m : ℕ) → (p n ≡ true → q (f n) ≡ true → ⊥) → Most p f q n m → Most p f q (suc n) m
+  most-not n m no-more w =
+      record {
+        above = λ k h a b. ⊎-elim (λ e. absurd (no-more (ap p (sym e) ∙ a) (ap (λ (i : ℕ). q (f i)) (sym e) ∙ b))) (λ l. w .above k l a b) (eq-or-lt-of-le (le-of-suc-le-suc h));
+        met = λ h. met-later n m (w .met h);
+      }
+
+  -- it passes
+  most-more : (n m : ℕ) → p n ≡ true → q (f n) ≡ true → Most p f q n m → Most p f q (suc n) (max m (f n .zeros))
+  most-more n m a b w =
+      record {
+        above = λ k h c d. ⊎-elim (λ e. omega (arith, ap (λ (i : ℕ). f i .zeros) e)) (λ l. omega (arith, w .above k l c d)) (eq-or-lt-of-le (le-of-suc-le-suc h));
+        met = λ h. go h (ltb (f n .zeros) m) refl;
+      }
+    where
+      go : 0 < max m (f n .zeros) → (t : Bool) → ltb (f n .zeros) m ≡ t → Met p f q (suc n) (max m (f n .zeros))
+      go h true e =
+          let is : m ≡ max m (f n .zeros) = omega (arith, ltb-true (f n .zeros) m e) in
+          subst (Met p f q (suc n)) is (met-later n m (w .met (omega arith)))
+      go h false e = record { at = n; within = omega arith; passes = a; kept = b; is = omega (arith, ltb-false (f n .zeros) m e) }
+
+  most-among : (n : ℕ) → Most p f q n (mostOf (keep q (among p f n)))
+  unfolding among keep mostOf fold
+  most-among zero = record { above = λ k h a b. absurd (omega arith); met = λ h. absurd (omega arith) }
+  most-among (suc n) = go (p n) refl (q (f n)) refl (most-among n)
+    where
+      go :
+          (b : Bool)
+          → p n ≡ b
+          → (c : Bool)
+          → q (f n) ≡ c
+          → Most p f q n (mostOf (keep q (among p f n)))
+          → Most p f q (suc n) (mostOf (keep q (among p f n ++ pick b (f n ∷ []) [])))
+      go false e c d ih =
+          subst (λ (l : List Candidate). Most p f q (suc n) (mostOf (keep q l))) (sym (append-nil (among p f n)))
+          (most-not n (mostOf (keep q (among p f n))) (λ x y. never-both e x) ih)
+      go true e false d ih =
+          subst (λ (l : List Candidate). Most p f q (suc n) (mostOf l)) (sym (keep-append q (among p f n) (f n ∷ []) ∙ one d))
+          (most-not n (mostOf (keep q (among p f n))) (λ x y. never-both d y) ih)
+        where
+          one : q (f n) ≡ false → keep q (among p f n) ++ keep q (f n ∷ []) ≡ keep q (among p f n)
+          one x = rw x (append-nil (keep q (among p f n)))
+      go true e true d ih =
+          subst (Most p f q (suc n)) (sym (ap mostOf (keep-append q (among p f n) (f n ∷ [])) ∙ one d))
+          (most-more n (mostOf (keep q (among p f n))) e d ih)
+        where
+          one : q (f n) ≡ true → mostOf (keep q (among p f n) ++ keep q (f n ∷ [])) ≡ max (mostOf (keep q (among p f n))) (f n .zeros)
+          one x = rw x (fold-last orZeros 0 (keep q (among p f n)) (f n))
+
+-- ---- the lead
+
+-- there is but one lead
+leads-alone : (shifted : List ℕ) (bv x y : ℕ) → Leads shifted bv x → Leads shifted bv y → x ≡ y
+leads-alone shifted bv x y a b = omega (arith, a .lead-is, b .lead-is, below (a .best) a b refl, below (b .best) b a refl)
+  where
+    below : (m : ℕ) {u w : ℕ} (c : Leads shifted bv u) (d : Leads shifted bv w) → m ≡ c .best → m ≤ d .best
+    below zero c d e = omega arith
+    below (suc m) c d e =
+        let z : BestOther shifted bv (c .best) = c .met (omega arith) in
+        omega (arith, z .zeros, d .most (z .value) (z .byte) (z .stands) (z .differs))
+
+module _ (lim : ℕ) (shifted anchors : List ℕ) (n t bv : ℕ) (b : AllBytes shifted) where
+  abbrev a : Assessment
+  a = assessmentOf lim shifted anchors n t
+
+  abbrev at : ℕ → Candidate
+  at v = candidateOf lim shifted anchors n t v
+
+  abbrev best : ℕ
+  best = mostOf (group (Others bv) a)
+
+  zeros-are : (v : ℕ) → v < 256 → at v .zeros ≡ zerosWith shifted v
+  unfolding candidateOf
+  zeros-are v h = zeros-at shifted v h b
+
+  others : (v : ℕ) → (v ≡ bv → ⊥) → belongs (Others bv) (at v) ≡ true
+  unfolding candidateOf
+  others v ne = ap not (ne-eqb v bv ne)
+
+  other : (v : ℕ) → belongs (Others bv) (at v) ≡ true → v ≡ bv → ⊥
+  unfolding candidateOf
+  other v h e = never-both (ap not (eq-eqb v bv e)) h
+
+  module _ (few : a .candidates .len ≤ 8) where
+    most : Most (standsFor shifted) at (belongs (Others bv)) 256 best
+    unfolding candidatesBelow standsFor
+    most =
+        subst (λ (l : List Candidate). Most (standsFor shifted) at (belongs (Others bv)) 256 (mostOf (keep (belongs (Others bv)) l)))
+        (sym (all-listed lim shifted anchors n t few)) (most-among (standsFor shifted) at (belongs (Others bv)) 256)
+
+    leads : Leads shifted bv (zerosWith shifted bv - best)
+    leads =
+        record {
+          best = best;
+          most = λ v h s ne. omega (arith, zeros-are v h, most .above v h s (others v ne));
+          met =
+              λ h.
+              let m : Met (standsFor shifted) at (belongs (Others bv)) 256 best = most .met h in
+              record {
+                value = m .at;
+                byte = m .within;
+                stands = m .passes;
+                differs = other (m .at) (m .kept);
+                zeros = sym (zeros-are (m .at) (m .within)) ∙ m .is;
+              };
+          lead-is = refl;
+        }
+
+-- ---- kind by kind
+
+module _ (lim : ℕ) (shifted anchors : List ℕ) (n t bv : ℕ) where
+  abbrev So : Evidence → Type 0
+  So = Supports lim shifted anchors n t bv
+
+  nothing-so : (e : Evidence) → evidenceNumber e ≡ 0 → So e → ⊥
+  unfolding Supports
+  nothing-so evidence.Nothing h s = s
+  nothing-so evidence.TrailerRowCount h s = omega arith
+  nothing-so (evidence.ExactSectors c d) h s = omega arith
+  nothing-so evidence.BlockAnchor h s = omega arith
+  nothing-so (evidence.ZeroMass z l) h s = omega arith
+  nothing-so evidence.Unallocated h s = s
+
+  rows-so : Kind So evidence.TrailerRowCount (isVerified lim shifted n t bv)
+  unfolding Supports isVerified
+  rows-so = record { so = λ e. (ltb-true 0 n (and-left (ltb 0 n) passes e), and-right (ltb 0 n) passes e); alone = alone }
+    where
+      passes : Bool
+      passes = rowCountMatches lim (plainOf bv shifted) n t
+
+      alone : (e : Evidence) → evidenceNumber e ≡ 1 → So e → (isVerified lim shifted n t bv ≡ true) × (e ≡ evidence.TrailerRowCount)
+      alone evidence.Nothing h s = absurd s
+      alone evidence.TrailerRowCount h s = (and-yes (ltb 0 n) passes (lt-ltb 0 n (s .0)) (s .1), refl)
+      alone (evidence.ExactSectors c d) h s = absurd (omega arith)
+      alone evidence.BlockAnchor h s = absurd (omega arith)
+      alone (evidence.ZeroMass z l) h s = absurd (omega arith)
+      alone evidence.Unallocated h s = absurd s
+
+  votes-so : Kind So (evidence.ExactSectors (votesFor shifted bv) (dissentFrom shifted bv)) (ltb 0 (votesFor shifted bv))
+  unfolding Supports
+  votes-so = record { so = λ e. (ltb-true 0 (votesFor shifted bv) e, refl, refl); alone = alone }
+    where
+      alone :
+          (e : Evidence)
+          → evidenceNumber e ≡ 2
+          → So e
+          → (ltb 0 (votesFor shifted bv) ≡ true) × (e ≡ evidence.ExactSectors (votesFor shifted bv) (dissentFrom shifted bv))
+      alone evidence.Nothing h s = absurd s
+      alone evidence.TrailerRowCount h s = absurd (omega arith)
+      alone (evidence.ExactSectors c d) h s = (lt-ltb 0 (votesFor shifted bv) (s .0), ap₂ evidence.ExactSectors (s .1) (s .2))
+      alone evidence.BlockAnchor h s = absurd (omega arith)
+      alone (evidence.ZeroMass z l) h s = absurd (omega arith)
+      alone evidence.Unallocated h s = absurd s
+
+  anchor-so : Kind So evidence.BlockAnchor (isIn bv anchors)
+  unfolding Supports
+  anchor-so = record { so = λ e. e; alone = alone }
+    where
+      alone : (e : Evidence) → evidenceNumber e ≡ 3 → So e → (isIn bv anchors ≡ true) × (e ≡ evidence.BlockAnchor)
+      alone evidence.Nothing h s = absurd s
+      alone evidence.TrailerRowCount h s = absurd (omega arith)
+      alone (evidence.ExactSectors c d) h s = absurd (omega arith)
+      alone evidence.BlockAnchor h s = (s, refl)
+      alone (evidence.ZeroMass z l) h s = absurd (omega arith)
+      alone evidence.Unallocated h s = absurd s
+
+  mass-so : (lead : ℕ) → Leads shifted bv lead → Kind So (evidence.ZeroMass (zerosWith shifted bv) lead) true
+  unfolding Supports
+  mass-so lead w = record { so = λ e. (refl, w); alone = alone }
+    where
+      alone : (e : Evidence) → evidenceNumber e ≡ 4 → So e → (_≡_ {A = Bool} true true) × (e ≡ evidence.ZeroMass (zerosWith shifted bv) lead)
+      alone evidence.Nothing h s = absurd s
+      alone evidence.TrailerRowCount h s = absurd (omega arith)
+      alone (evidence.ExactSectors c d) h s = absurd (omega arith)
+      alone evidence.BlockAnchor h s = absurd (omega arith)
+      alone (evidence.ZeroMass z l) h s = (refl, ap₂ evidence.ZeroMass (s .0) (leads-alone shifted bv l lead (s .1) w))
+      alone evidence.Unallocated h s = absurd s
+
+  -- the table, in the words of the page
+  abbrev rowsTold : Grounds
+  rowsTold = groundIf (isVerified lim shifted n t bv) noGrounds evidence.TrailerRowCount
+
+  abbrev votesTold : Grounds
+  votesTold = groundIf (ltb 0 (votesFor shifted bv)) rowsTold (evidence.ExactSectors (votesFor shifted bv) (dissentFrom shifted bv))
+
+  abbrev anchorTold : Grounds
+  anchorTold = groundIf (isIn bv anchors) votesTold evidence.BlockAnchor
+
+  abbrev allTold : ℕ → Grounds
+  allTold lead = withGround anchorTold (evidence.ZeroMass (zerosWith shifted bv) lead)
+
+  fifth-not : (e : Evidence) → 4 < evidenceNumber e → So e → ⊥
+  unfolding Supports
+  fifth-not evidence.Nothing h s = s
+  fifth-not evidence.TrailerRowCount h s = omega arith
+  fifth-not (evidence.ExactSectors c d) h s = omega arith
+  fifth-not evidence.BlockAnchor h s = omega arith
+  fifth-not (evidence.ZeroMass z l) h s = omega arith
+  fifth-not evidence.Unallocated h s = s
+
+  told : (lead : ℕ) → Leads shifted bv lead → Tells So (allTold lead)
+  told lead w =
+      let none : UpTo So 0 noGrounds = up-none So nothing-so in
+      let rows : UpTo So 1 rowsTold = up-next So 0 noGrounds none evidence.TrailerRowCount refl (omega arith) (isVerified lim shifted n t bv) rows-so in
+      let votes : UpTo So 2 votesTold = up-next So 1 rowsTold rows _ refl (omega arith) (ltb 0 (votesFor shifted bv)) votes-so in
+      let anchor : UpTo So 3 anchorTold = up-next So 2 votesTold votes evidence.BlockAnchor refl (omega arith) (isIn bv anchors) anchor-so in
+      let all : UpTo So 4 (allTold lead) = up-next So 3 anchorTold anchor _ refl (omega arith) true (mass-so lead w) in
+      up-all So 4 (allTold lead) all fifth-not
+
+  -- and what the rules list
+  module _ (h : bv < 256) (b : AllBytes shifted) where
+    abbrev assessment : Assessment
+    assessment = assessmentOf lim shifted anchors n t
+
+    dissent-is : length (ballots shifted) - votesFor shifted bv ≡ dissentFrom shifted bv
+    dissent-is = omega (arith, ballots-number shifted, exact-parted shifted bv)
+
+    listed-told : groundsOf assessment (candidateOf lim shifted anchors n t bv) ≡ allTold (zerosWith shifted bv - mostOf (group (Others bv) assessment))
+    unfolding groundsOf candidateOf assessmentOf
+    listed-told = rw (ballots-at shifted bv h, dissent-is, zeros-at shifted bv h b)
+
+pub evidenced : Evidenced
+evidenced =
+    record {
+      choice =
+          λ lim number shifted anchors n o b good.
+          let t : ℕ = o .«min_trailer_count» in
+          let c : Choice = choiceOf lim number shifted anchors n o in
+          let w : Chosen lim shifted anchors n t c = chosen-stands lim number shifted anchors n o b good in
+          subst (Tells (Supports lim shifted anchors n t (c .bv))) (sym (w .grounds ∙ listed-told lim shifted anchors n t (c .bv) (w .byte) b))
+          (told lim shifted anchors n t (c .bv) _ (leads lim shifted anchors n t (c .bv) b (w .few)));
+    }
