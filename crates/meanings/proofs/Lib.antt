@@ -12,3 +12,4 @@ pub mod Sources
 pub mod Taken
 pub mod EvidenceTable
 pub mod Evidence
+pub mod Supplied

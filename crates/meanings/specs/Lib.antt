@@ -2,3 +2,4 @@
 pub mod Values
 pub mod Sources
 pub mod Evidence
+pub mod Supplied

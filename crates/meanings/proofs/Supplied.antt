@@ -1,0 +1,172 @@
+-- A SUPPLIED bv: its outcome, proved. Assumes nothing.
+use Prim.Native.Nat.{ℕ, _-_, _<_}
+use mathlib.Core.Path.{_≡_, refl, sym, ap₂, _∙_, subst}
+use mathlib.Core.Bool.{Bool, true, false, _&&_}
+use mathlib.Core.List.{List}
+use native.Mathlib.Decide.{ℕ-discrete}
+use native.Mathlib.Omega.{arith}
+use borrow.Author.Tests.{le-leb, leb-true, eq-eqb, eqb-true}
+use lib.Dec.{eqb, leb}
+use lib.ListN.{length}
+use Rattle.lists.proofs.Booleans.{and-yes, and-left, and-right}
+use Rattle.lists.proofs.Picks.{never-both}
+use Rattle.answers.specs.Settings.{keystream}
+use Rattle.answers.specs.Answers.{noBvs}
+use Rattle.answers.specs.Trust.{evidenceNumber, noGrounds, groundIf}
+use Rattle.answers.specs.declared.kinds.Answer.{Answer}
+use Rattle.answers.specs.declared.kinds.Answer.the-variants as answer
+use Rattle.answers.specs.declared.trust.Confidence.{Confidence}
+use Rattle.answers.specs.declared.trust.Confidence.the-variants as confidence
+use Rattle.answers.specs.declared.trust.Evidence.{Evidence}
+use Rattle.answers.specs.declared.trust.Evidence.the-variants as evidence
+use Rattle.answers.specs.declared.trust.Grounds.{Grounds}
+use Rattle.answers.specs.declared.notices.WarningKind.{WarningKind}
+use Rattle.answers.specs.declared.notices.WarningKind.the-variants as warning
+use Rattle.answers.specs.declared.settings.Options.{Options}
+use Rattle.votes.specs.Votes.{ballots}
+use Rattle.choice.specs.declared.Choice.{Choice}
+use Rattle.choice.specs.Rules.{refusedOf}
+use Rattle.choice.specs.Supplied.{suppliedWith, suppliedBy, suppliedOf}
+use Rattle.choice.proofs.ChoiceCases.{suppliedGrounds, supplied-length, supplied-verified, supplied-calibrated, supplied-lenient, supplied-refused}
+use Rattle.meanings.specs.Values.{votesFor, dissentFrom}
+use Rattle.meanings.specs.Evidence.{Tells}
+use Rattle.meanings.specs.Supplied.{Calibrates, passes, Backs, TakenAs, RefusedAs, Outcome, Backed}
+use Rattle.meanings.specs.Supplied.Outcome.{verified, calibrated, unverified, refused, wrong-length}
+use Rattle.meanings.proofs.Values.{ballots-number, ballots-count, exact-parted}
+use Rattle.meanings.proofs.EvidenceTable.{UpTo, Kind, up-none, up-next, up-all}
+
+-- ---- the evidence
+
+module _ (lim bv : ℕ) (shifted : List ℕ) (n t : ℕ) where
+  abbrev So : Evidence → Type 0
+  So = Backs lim bv shifted n t
+
+  abbrev matches : Bool
+  matches = passes lim bv shifted n t
+
+  abbrev votes : ℕ
+  votes = votesFor shifted bv
+
+  abbrev dissent : ℕ
+  dissent = dissentFrom shifted bv
+
+  nothing-so : (e : Evidence) → evidenceNumber e ≡ 0 → So e → ⊥
+  unfolding Backs
+  nothing-so evidence.Nothing h s = s
+  nothing-so evidence.TrailerRowCount h s = omega arith
+  nothing-so (evidence.ExactSectors c d) h s = omega arith
+  nothing-so evidence.BlockAnchor h s = s
+  nothing-so (evidence.ZeroMass z l) h s = s
+  nothing-so evidence.Unallocated h s = s
+
+  later-not : (e : Evidence) → 2 < evidenceNumber e → So e → ⊥
+  unfolding Backs
+  later-not evidence.Nothing h s = s
+  later-not evidence.TrailerRowCount h s = omega arith
+  later-not (evidence.ExactSectors c d) h s = omega arith
+  later-not evidence.BlockAnchor h s = s
+  later-not (evidence.ZeroMass z l) h s = s
+  later-not evidence.Unallocated h s = s
+
+  rows-so : Kind So evidence.TrailerRowCount matches
+  unfolding Backs
+  rows-so = record { so = λ e. e; alone = alone }
+    where
+      alone : (e : Evidence) → evidenceNumber e ≡ 1 → So e → (matches ≡ true) × (e ≡ evidence.TrailerRowCount)
+      alone evidence.Nothing h s = absurd s
+      alone evidence.TrailerRowCount h s = (s, refl)
+      alone (evidence.ExactSectors c d) h s = absurd (omega arith)
+      alone evidence.BlockAnchor h s = absurd s
+      alone (evidence.ZeroMass z l) h s = absurd s
+      alone evidence.Unallocated h s = absurd s
+
+  votes-so : Kind So (evidence.ExactSectors votes dissent) (leb 2 votes)
+  unfolding Backs
+  votes-so = record { so = λ e. (leb-true 2 votes e, refl, refl); alone = alone }
+    where
+      alone : (e : Evidence) → evidenceNumber e ≡ 2 → So e → (leb 2 votes ≡ true) × (e ≡ evidence.ExactSectors votes dissent)
+      alone evidence.Nothing h s = absurd s
+      alone evidence.TrailerRowCount h s = absurd (omega arith)
+      alone (evidence.ExactSectors c d) h s = (le-leb 2 votes (s .0), ap₂ evidence.ExactSectors (s .1) (s .2))
+      alone evidence.BlockAnchor h s = absurd s
+      alone (evidence.ZeroMass z l) h s = absurd s
+      alone evidence.Unallocated h s = absurd s
+
+  told : Tells So (suppliedGrounds votes dissent matches)
+  told =
+      let none : UpTo So 0 noGrounds = up-none So nothing-so in
+      let first : Grounds = groundIf matches noGrounds evidence.TrailerRowCount in
+      let rows : UpTo So 1 first = up-next So 0 noGrounds none evidence.TrailerRowCount refl (omega arith) matches rows-so in
+      let all : UpTo So 2 (suppliedGrounds votes dissent matches) = up-next So 1 first rows _ refl (omega arith) (leb 2 votes) votes-so in
+      up-all So 2 (suppliedGrounds votes dissent matches) all later-not
+
+-- ---- the outcome
+
+module _ (lim number bv : ℕ) (shifted : List ℕ) (n : ℕ) (o : Options) where
+  abbrev t : ℕ
+  t = o .«min_trailer_count»
+
+  abbrev s : Choice
+  s = suppliedOf lim number bv shifted n o
+
+  abbrev v : ℕ
+  v = votesFor shifted bv
+
+  abbrev d : ℕ
+  d = dissentFrom shifted bv
+
+  abbrev m : Bool
+  m = passes lim bv shifted n t
+
+  abbrev l : Bool
+  l = keystream o
+
+  abbrev agreed : Bool
+  agreed = leb 2 v && eqb d 0
+
+  taken-as : (k : Confidence) (w : WarningKind) → s ≡ suppliedWith bv k (suppliedGrounds v d m) w → TakenAs lim number bv shifted n o s k w
+  taken-as k w e =
+      subst (λ (c : Choice). TakenAs lim number bv shifted n o c k w) (sym e)
+      (record { answered = refl; value = refl; from = refl; trusted = refl; evidence = told lim bv shifted n t; unlisted = refl; warned = refl })
+
+  refused-as : (x : Answer) → s ≡ refusedOf x noBvs → RefusedAs lim number bv shifted n o s x
+  unfolding refusedOf
+  refused-as x e =
+      subst (λ (c : Choice). RefusedAs lim number bv shifted n o c x) (sym e)
+      (record { answered = refl; value = refl; from = refl; trusted = refl; evidence = refl; unlisted = refl; warned = refl })
+
+  calibrates : agreed ≡ true → Calibrates shifted bv
+  calibrates e =
+      record {
+        two = leb-true 2 v (and-left (leb 2 v) (eqb d 0) e);
+        agreed = eqb-true d 0 (and-right (leb 2 v) (eqb d 0) e);
+      }
+
+  calibrates-not : agreed ≡ false → Calibrates shifted bv → ⊥
+  calibrates-not e c =
+      never-both e
+      (and-yes (leb 2 v) (eqb d 0) (le-leb 2 v (c .two)) (eq-eqb d 0 (c .agreed)))
+
+  by-words : length shifted ≡ 4080 → s ≡ suppliedBy number l bv v d m
+  unfolding suppliedOf
+  by-words h =
+      let e : length (ballots shifted) - v ≡ d = omega (arith, ballots-number shifted, exact-parted shifted bv) in
+      rw (eq-eqb (length shifted) 4080 h, ballots-count shifted bv, e)
+
+  module _ (h : length shifted ≡ 4080) where
+    judged : (x : Bool) → m ≡ x → (y : Bool) → agreed ≡ y → (z : Bool) → l ≡ z → Outcome lim number bv shifted n o s
+    judged true p y q z r = verified h p (taken-as confidence.Verified warning.Nothing (by-words h ∙ supplied-verified number l bv v d m p))
+    judged false p true q z r =
+        calibrated h p (calibrates q) (taken-as confidence.Calibrated warning.Nothing (by-words h ∙ supplied-calibrated number l bv v d m p q))
+    judged false p false q true r =
+        unverified h p (calibrates-not q) r
+        (taken-as confidence.Unverified (warning.UnverifiedKeystream bv) (by-words h ∙ supplied-lenient number l bv v d m p q r))
+    judged false p false q false r =
+        refused h p (calibrates-not q) r (refused-as (answer.KeystreamUnverified number bv) (by-words h ∙ supplied-refused number l bv v d m p q r))
+
+  outcome : Dec (length shifted ≡ 4080) → Outcome lim number bv shifted n o s
+  outcome (yes h) = judged h m refl agreed refl l refl
+  outcome (no ne) = wrong-length ne (refused-as (answer.WrongBufferLength (length shifted)) (supplied-length lim number bv shifted n o ne))
+
+pub backed : Backed
+backed = record { supplied = λ lim number bv shifted n o. outcome lim number bv shifted n o (ℕ-discrete (length shifted) 4080) }

@@ -1,0 +1,88 @@
+-- A SUPPLIED bv: when it is refused, how far it is trusted, and its evidence, in words of the page. Assumes nothing.
+use Prim.Native.Nat.{ℕ, _≤_}
+use mathlib.Core.Path.{_≡_}
+use mathlib.Core.Bool.{Bool, true, false}
+use mathlib.Core.List.{List}
+use lib.ListN.{length}
+use Rattle.lists.specs.Bytes.{plainOf}
+use Rattle.answers.specs.Answers.{noBvs}
+use Rattle.answers.specs.Settings.{keystream}
+use Rattle.answers.specs.Trust.{noGrounds}
+use Rattle.answers.specs.declared.kinds.Answer.{Answer}
+use Rattle.answers.specs.declared.kinds.Answer.the-variants as answer
+use Rattle.answers.specs.declared.trust.Source.the-variants as source
+use Rattle.answers.specs.declared.trust.Confidence.{Confidence}
+use Rattle.answers.specs.declared.trust.Confidence.the-variants as confidence
+use Rattle.answers.specs.declared.trust.Evidence.{Evidence}
+use Rattle.answers.specs.declared.trust.Evidence.the-variants as evidence
+use Rattle.answers.specs.declared.notices.WarningKind.{WarningKind}
+use Rattle.answers.specs.declared.notices.WarningKind.the-variants as warning
+use Rattle.answers.specs.declared.settings.Options.{Options}
+use Rattle.slots.specs.Slots.{rowCountMatches}
+use Rattle.choice.specs.declared.Choice.{Choice}
+use Rattle.choice.specs.Supplied.{suppliedOf}
+use Rattle.meanings.specs.Values.{votesFor, dissentFrom}
+use Rattle.meanings.specs.Evidence.{Tells}
+
+-- "Exact-sector evidence needs two votes, and calibrates if there is no dissent"
+pub record Calibrates (shifted : List ℕ) (bv : ℕ) : Type 0 where
+  pub two : 2 ≤ votesFor shifted bv
+  pub agreed : dissentFrom shifted bv ≡ 0
+
+module _ (lim bv : ℕ) (shifted : List ℕ) (n t : ℕ) where
+  -- "The row-count test, without the nonzero guard"
+  abbrev pub passes : Bool
+  passes = rowCountMatches lim (plainOf bv shifted) n t
+
+  -- when each piece of evidence holds of a supplied bv: "no zero mass", and no anchor
+  unfoldable pub Backs : Evidence → Type 0
+  Backs evidence.Nothing = ⊥
+  Backs evidence.TrailerRowCount = passes ≡ true
+  Backs (evidence.ExactSectors votes dissent) = (2 ≤ votesFor shifted bv) × (votes ≡ votesFor shifted bv) × (dissent ≡ dissentFrom shifted bv)
+  Backs evidence.BlockAnchor = ⊥
+  Backs (evidence.ZeroMass zeros lead) = ⊥
+  Backs evidence.Unallocated = ⊥
+
+module _ (lim number bv : ℕ) (shifted : List ℕ) (n : ℕ) (o : Options) (s : Choice) where
+  abbrev t : ℕ
+  t = o .«min_trailer_count»
+
+  -- it is taken, so far trusted and with such a warning, and its evidence is all that holds
+  pub record TakenAs (k : Confidence) (w : WarningKind) : Type 0 where
+    pub answered : s .answer ≡ answer.Accepted
+    pub value : s .bv ≡ bv
+    pub from : s .source ≡ source.Supplied
+    pub trusted : s .confidence ≡ k
+    pub evidence : Tells (Backs lim bv shifted n t) (s .grounds)
+    pub unlisted : s .group ≡ noBvs
+    pub warned : s .warned ≡ w
+
+  -- it is refused: no bv, no evidence, no warning
+  pub record RefusedAs (x : Answer) : Type 0 where
+    pub answered : s .answer ≡ x
+    pub value : s .bv ≡ 0
+    pub from : s .source ≡ source.Refused
+    pub trusted : s .confidence ≡ confidence.Refused
+    pub evidence : s .grounds ≡ noGrounds
+    pub unlisted : s .group ≡ noBvs
+    pub warned : s .warned ≡ warning.Nothing
+
+  -- one of these, for 4,080 shifted bytes one of the first four: no two of them can be, so each is where its premises are and nowhere else
+  pub data Outcome : Type 0 where
+    verified : length shifted ≡ 4080 → passes lim bv shifted n t ≡ true → TakenAs confidence.Verified warning.Nothing → Outcome
+    calibrated : length shifted ≡ 4080 → passes lim bv shifted n t ≡ false → Calibrates shifted bv → TakenAs confidence.Calibrated warning.Nothing → Outcome
+    unverified :
+        length shifted ≡ 4080
+        → passes lim bv shifted n t ≡ false
+        → (Calibrates shifted bv → ⊥)
+        → keystream o ≡ true
+        → TakenAs confidence.Unverified (warning.UnverifiedKeystream bv)
+        → Outcome
+    refused :
+        length shifted ≡ 4080 → passes lim bv shifted n t ≡ false → (Calibrates shifted bv → ⊥) → keystream o ≡ false → RefusedAs (answer.KeystreamUnverified number bv) → Outcome
+    wrong-length : (length shifted ≡ 4080 → ⊥) → RefusedAs (answer.WrongBufferLength (length shifted)) → Outcome
+
+pub record Backed : Type 0 where
+  pub supplied :
+      (lim number bv : ℕ) (shifted : List ℕ) (n : ℕ) (o : Options)
+      → Outcome lim number bv shifted n o (suppliedOf lim number bv shifted n o)
