@@ -23,13 +23,16 @@ use Rattle.page.specs.Trailer.{rowCount}
 use Rattle.page.specs.Integrity.{isUnallocated}
 use Rattle.summary.specs.Page.{sectorEnd, part, fitAt, fitsOf, bytesOf}
 use Rattle.summary.proofs.Sectors.{summary-length, summary-at}
-use Rattle.votes.specs.Votes.{assessmentOf}
+use Rattle.votes.specs.Votes.{candidateOf, assessmentOf}
+use Rattle.votes.specs.declared.Candidate.{Candidate}
 use Rattle.votes.specs.declared.Assessment.{Assessment}
+use Rattle.votes.proofs.Meaning.{counts-at}
 use Rattle.choice.specs.declared.Choice.{Choice}
 use Rattle.groups.specs.declared.Group.the-variants.{Others}
 use Rattle.groups.specs.Groups.{group, mostOf}
 use Rattle.choice.specs.Rules.{choiceOf}
 use Rattle.choice.specs.Supplied.{suppliedOf}
+use Rattle.meanings.proofs.Taken.{Chosen, chosen-stands}
 use Rattle.verdict.specs.declared.Decoding.{Decoding}
 use Rattle.verdict.specs.Sectors.{entry, refitOf}
 use Rattle.decode.specs.Decode.{plainPage, writtenOf}
@@ -37,7 +40,6 @@ use Rattle.demands.specs.Demand2.{Best, Recovered, Evident, Recovers, la
 use Rattle.demands.proofs.StoredBytes.{back-shifted, plain-byte, summary-bytes, refit-fresh}
 use Rattle.demands.proofs.Masses.{last-mass}
 use Rattle.demands.proofs.Shapes.{Whole, decoding-whole, supplied-whole}
-use Rattle.demands.proofs.CandidatesTaken.{Taking, takes-choice}
 
 best-fit : (offset : ℕ) (l : List ℕ) → Best offset l (fitOf offset l)
 unfolding sectorOf
@@ -153,34 +155,41 @@ module _
       summarized : AllBytes (bytesOf number stored)
       summarized = summary-bytes number stored (w .lengths good .0)
 
-      taking : Taking (bytesOf number stored) a (choiceOf lim number (bytesOf number stored) anchors n o)
-      taking =
-          takes-choice lim number (bytesOf number stored) anchors n o (omega (arith, w .lengths good .1 .1)) summarized .made
-          (ap (λ (c : Choice). isAccepted (c .answer)) (sym ruled) ∙ good)
+      chosen : Chosen lim (bytesOf number stored) anchors n (o .«min_trailer_count») (choiceOf lim number (bytesOf number stored) anchors n o)
+      chosen =
+          chosen-stands lim number (bytesOf number stored) anchors n o summarized (ap (λ (c : Choice). isAccepted (c .answer)) (sym ruled) ∙ good)
 
-      bv-is : d .choice .bv ≡ taking .taken .bv
-      bv-is = ap (λ (c : Choice). c .bv) ruled ∙ taking .bv
+      abbrev v : ℕ
+      v = choiceOf lim number (bytesOf number stored) anchors n o .bv
+
+      bv-is : d .choice .bv ≡ v
+      bv-is = ap (λ (c : Choice). c .bv) ruled
 
       small : d .choice .bv < 256
-      small = omega (arith, bv-is, taking .counted .byte)
+      small = omega (arith, bv-is, chosen .byte)
 
-      zeros-are : taking .taken .zeros ≡ count 0 (take 4080 (leftIn out number stored d))
+      abbrev taken : Candidate
+      taken = candidateOf lim (bytesOf number stored) anchors n (o .«min_trailer_count») v
+
+      zeros-are : taken .zeros ≡ count 0 (take 4080 (leftIn out number stored d))
+      unfolding candidateOf
       zeros-are =
-          taking .counted .mass
-          ∙ ap (λ (v : ℕ). count v (bytesOf number stored)) (sym bv-is)
+          counts-at (bytesOf number stored) v (chosen .byte)
+          ∙ ap (λ (x : ℕ). count x (bytesOf number stored)) (sym bv-is)
           ∙ sym (count-plain (d .choice .bv) (bytesOf number stored) small summarized)
           ∙ ap (count 0) (sym (taken-is number stored out (length out) (choiceOf lim number (bytesOf number stored) anchors n o) d w all used good))
 
       read-evident : Evident lim number stored anchors o d (leftIn out number stored d)
+      unfolding candidateOf
       read-evident =
           record {
             choice = ruled;
             byte = small;
             mass =
                 ap (λ (c : Choice). lastOf (c .grounds)) ruled
-                ∙ ap lastOf (taking .grounds)
-                ∙ last-mass a (taking .taken)
-                ∙ ap₂ (λ (z v : ℕ). evidence.ZeroMass z (z - mostOf (group (Others v) a))) zeros-are (sym bv-is);
+                ∙ ap lastOf (chosen .grounds)
+                ∙ last-mass a taken
+                ∙ ap₂ (λ (z x : ℕ). evidence.ZeroMass z (z - mostOf (group (Others x) a))) zeros-are (sym bv-is);
           }
 
 pub recovers : Recovers

@@ -6,6 +6,5 @@ pub mod DecodingCases
 pub mod AnswerNumbers
 pub mod Shapes
 pub mod StoredBytes
-pub mod CandidatesTaken
 pub mod Masses
 pub mod WarningTable
