@@ -56,7 +56,10 @@ module _ (p : ℕ → Bool) (f : ℕ → Candidate) (q : Candidate → Bool) whe
   most-not : (n m : ℕ) → (p n ≡ true → q (f n) ≡ true → ⊥) → Most p f q n m → Most p f q (suc n) m
   most-not n m no-more w =
       record {
-        above = λ k h a b. ⊎-elim (λ e. absurd (no-more (ap p (sym e) ∙ a) (ap (λ (i : ℕ). q (f i)) (sym e) ∙ b))) (λ l. w .above k l a b) (eq-or-lt-of-le (le-of-suc-le-suc h));
+        above =
+            λ k h a b.
+            ⊎-elim (λ e. absurd (no-more (ap p (sym e) ∙ a) (ap (λ (i : ℕ). q (f i)) (sym e) ∙ b))) (λ l. w .above k l a b)
+            (eq-or-lt-of-le (le-of-suc-le-suc h));
         met = λ h. met-later n m (w .met h);
       }
 
@@ -64,7 +67,9 @@ module _ (p : ℕ → Bool) (f : ℕ → Candidate) (q : Candidate → Bool) whe
   most-more : (n m : ℕ) → p n ≡ true → q (f n) ≡ true → Most p f q n m → Most p f q (suc n) (max m (f n .zeros))
   most-more n m a b w =
       record {
-        above = λ k h c d. ⊎-elim (λ e. omega (arith, ap (λ (i : ℕ). f i .zeros) e)) (λ l. omega (arith, w .above k l c d)) (eq-or-lt-of-le (le-of-suc-le-suc h));
+        above =
+            λ k h c d.
+            ⊎-elim (λ e. omega (arith, ap (λ (i : ℕ). f i .zeros) e)) (λ l. omega (arith, w .above k l c d)) (eq-or-lt-of-le (le-of-suc-le-suc h));
         met = λ h. go h (ltb (f n .zeros) m) refl;
       }
     where

@@ -1,6 +1,6 @@
--- A SUPPLIED bv: its outcome, proved. Assumes nothing.
+-- A SUPPLIED bv: what it means, proved. Assumes nothing.
 use Prim.Native.Nat.{ℕ, _-_, _<_}
-use mathlib.Core.Path.{_≡_, refl, sym, ap₂, _∙_, subst}
+use mathlib.Core.Path.{_≡_, refl, sym, ap, ap₂, _∙_, subst}
 use mathlib.Core.Bool.{Bool, true, false, _&&_}
 use mathlib.Core.List.{List}
 use native.Mathlib.Decide.{ℕ-discrete}
@@ -11,8 +11,8 @@ use lib.ListN.{length}
 use Rattle.lists.proofs.Booleans.{and-yes, and-left, and-right}
 use Rattle.lists.proofs.Picks.{never-both}
 use Rattle.answers.specs.Settings.{keystream}
-use Rattle.answers.specs.Answers.{noBvs}
-use Rattle.answers.specs.Trust.{evidenceNumber, noGrounds, groundIf}
+use Rattle.answers.specs.Answers.{numberOf, noBvs}
+use Rattle.answers.specs.Trust.{confidenceNumber, evidenceNumber, noGrounds, groundIf}
 use Rattle.answers.specs.declared.kinds.Answer.{Answer}
 use Rattle.answers.specs.declared.kinds.Answer.the-variants as answer
 use Rattle.answers.specs.declared.trust.Confidence.{Confidence}
@@ -30,8 +30,7 @@ use Rattle.choice.specs.Supplied.{suppliedWith, suppliedBy, suppliedOf}
 use Rattle.choice.proofs.ChoiceCases.{suppliedGrounds, supplied-length, supplied-verified, supplied-calibrated, supplied-lenient, supplied-refused}
 use Rattle.meanings.specs.Values.{votesFor, dissentFrom}
 use Rattle.meanings.specs.Evidence.{Tells}
-use Rattle.meanings.specs.Supplied.{Calibrates, passes, Backs, TakenAs, RefusedAs, Outcome, Backed}
-use Rattle.meanings.specs.Supplied.Outcome.{verified, calibrated, unverified, refused, wrong-length}
+use Rattle.meanings.specs.Supplied.{Calibrates, passes, Backs, Unbacked, TakenAs, RefusedAs, Meaning, Said, Made, SuppliedMeans}
 use Rattle.meanings.proofs.Values.{ballots-number, ballots-count, exact-parted}
 use Rattle.meanings.proofs.EvidenceTable.{UpTo, Kind, up-none, up-next, up-all}
 
@@ -100,7 +99,7 @@ module _ (lim bv : ℕ) (shifted : List ℕ) (n t : ℕ) where
       let all : UpTo So 2 (suppliedGrounds votes dissent matches) = up-next So 1 first rows _ refl (omega arith) (leb 2 votes) votes-so in
       up-all So 2 (suppliedGrounds votes dissent matches) all later-not
 
--- ---- the outcome
+-- ---- what it is
 
 module _ (lim number bv : ℕ) (shifted : List ℕ) (n : ℕ) (o : Options) where
   abbrev t : ℕ
@@ -153,20 +152,126 @@ module _ (lim number bv : ℕ) (shifted : List ℕ) (n : ℕ) (o : Options) wher
       let e : length (ballots shifted) - v ≡ d = omega (arith, ballots-number shifted, exact-parted shifted bv) in
       rw (eq-eqb (length shifted) 4080 h, ballots-count shifted bv, e)
 
+  unbacked : m ≡ false → agreed ≡ false → Unbacked lim number bv shifted n o s
+  unbacked p q = record { unpassed = p; uncalibrated = calibrates-not q }
+
   module _ (h : length shifted ≡ 4080) where
-    judged : (x : Bool) → m ≡ x → (y : Bool) → agreed ≡ y → (z : Bool) → l ≡ z → Outcome lim number bv shifted n o s
-    judged true p y q z r = verified h p (taken-as confidence.Verified warning.Nothing (by-words h ∙ supplied-verified number l bv v d m p))
+    judged : (x : Bool) → m ≡ x → (y : Bool) → agreed ≡ y → (z : Bool) → l ≡ z → Meaning lim number bv shifted n o s
+    judged true p y q z r = Meaning.verified h p (taken-as confidence.Verified warning.Nothing (by-words h ∙ supplied-verified number l bv v d m p))
     judged false p true q z r =
-        calibrated h p (calibrates q) (taken-as confidence.Calibrated warning.Nothing (by-words h ∙ supplied-calibrated number l bv v d m p q))
+        Meaning.calibrated h p (calibrates q) (taken-as confidence.Calibrated warning.Nothing (by-words h ∙ supplied-calibrated number l bv v d m p q))
     judged false p false q true r =
-        unverified h p (calibrates-not q) r
+        Meaning.unverified h (unbacked p q) r
         (taken-as confidence.Unverified (warning.UnverifiedKeystream bv) (by-words h ∙ supplied-lenient number l bv v d m p q r))
     judged false p false q false r =
-        refused h p (calibrates-not q) r (refused-as (answer.KeystreamUnverified number bv) (by-words h ∙ supplied-refused number l bv v d m p q r))
+        Meaning.refused h (unbacked p q) r
+        (refused-as (answer.KeystreamUnverified number bv) (by-words h ∙ supplied-refused number l bv v d m p q r))
 
-  outcome : Dec (length shifted ≡ 4080) → Outcome lim number bv shifted n o s
-  outcome (yes h) = judged h m refl agreed refl l refl
-  outcome (no ne) = wrong-length ne (refused-as (answer.WrongBufferLength (length shifted)) (supplied-length lim number bv shifted n o ne))
+  means : Dec (length shifted ≡ 4080) → Meaning lim number bv shifted n o s
+  means (yes h) = judged h m refl agreed refl l refl
+  means (no ne) = Meaning.wrong-length ne (refused-as (answer.WrongBufferLength (length shifted)) (supplied-length lim number bv shifted n o ne))
 
-pub backed : Backed
-backed = record { supplied = λ lim number bv shifted n o. outcome lim number bv shifted n o (ℕ-discrete (length shifted) 4080) }
+  -- ---- what the marks say
+
+  trusted-apart : {P : Type 0} {j k : Confidence} → s .confidence ≡ j → s .confidence ≡ k → eqb (confidenceNumber j) (confidenceNumber k) ≡ false → P
+  trusted-apart {j = j} {k = k} e f h = absurd (never-both h (eq-eqb (confidenceNumber j) (confidenceNumber k) (ap confidenceNumber (sym e ∙ f))))
+
+  answers-apart : {P : Type 0} {x : Answer} {k : ℕ} → s .answer ≡ x → numberOf (s .answer) ≡ k → eqb (numberOf x) k ≡ false → P
+  answers-apart {x = x} {k = k} e f h = absurd (never-both h (eq-eqb (numberOf x) k (ap numberOf (sym e) ∙ f)))
+
+  said-by : Meaning lim number bv shifted n o s → Said lim number bv shifted n o s
+  said-by (Meaning.verified h p w) =
+      record {
+        verified = λ e. p;
+        calibrated = λ e. trusted-apart (w .trusted) e refl;
+        unverified = λ e. trusted-apart (w .trusted) e refl;
+        refused = λ e. answers-apart (w .answered) e refl;
+        wrong-length = λ e. answers-apart (w .answered) e refl;
+      }
+  said-by (Meaning.calibrated h p c w) =
+      record {
+        verified = λ e. trusted-apart (w .trusted) e refl;
+        calibrated = λ e. (p, c);
+        unverified = λ e. trusted-apart (w .trusted) e refl;
+        refused = λ e. answers-apart (w .answered) e refl;
+        wrong-length = λ e. answers-apart (w .answered) e refl;
+      }
+  said-by (Meaning.unverified h u r w) =
+      record {
+        verified = λ e. trusted-apart (w .trusted) e refl;
+        calibrated = λ e. trusted-apart (w .trusted) e refl;
+        unverified = λ e. (u, r);
+        refused = λ e. answers-apart (w .answered) e refl;
+        wrong-length = λ e. answers-apart (w .answered) e refl;
+      }
+  said-by (Meaning.refused h u r w) =
+      record {
+        verified = λ e. trusted-apart (w .trusted) e refl;
+        calibrated = λ e. trusted-apart (w .trusted) e refl;
+        unverified = λ e. trusted-apart (w .trusted) e refl;
+        refused = λ e. (u, r);
+        wrong-length = λ e. answers-apart (w .answered) e refl;
+      }
+  said-by (Meaning.wrong-length ne w) =
+      record {
+        verified = λ e. trusted-apart (w .trusted) e refl;
+        calibrated = λ e. trusted-apart (w .trusted) e refl;
+        unverified = λ e. trusted-apart (w .trusted) e refl;
+        refused = λ e. answers-apart (w .answered) e refl;
+        wrong-length = λ e. ne;
+      }
+
+  -- ---- what the page makes of it
+
+  made-by : Meaning lim number bv shifted n o s → Made lim number bv shifted n o s
+  made-by (Meaning.verified h p w) =
+      record {
+        verified = λ i q. w;
+        calibrated = λ i q c. absurd (never-both q p);
+        unverified = λ i u r. absurd (never-both (u .unpassed) p);
+        refused = λ i u r. absurd (never-both (u .unpassed) p);
+        wrong-length = λ ne. absurd (ne h);
+      }
+  made-by (Meaning.calibrated h p c w) =
+      record {
+        verified = λ i q. absurd (never-both p q);
+        calibrated = λ i q b. w;
+        unverified = λ i u r. absurd (u .uncalibrated c);
+        refused = λ i u r. absurd (u .uncalibrated c);
+        wrong-length = λ ne. absurd (ne h);
+      }
+  made-by (Meaning.unverified h u r w) =
+      record {
+        verified = λ i q. absurd (never-both (u .unpassed) q);
+        calibrated = λ i q c. absurd (u .uncalibrated c);
+        unverified = λ i b q. w;
+        refused = λ i b q. absurd (never-both q r);
+        wrong-length = λ ne. absurd (ne h);
+      }
+  made-by (Meaning.refused h u r w) =
+      record {
+        verified = λ i q. absurd (never-both (u .unpassed) q);
+        calibrated = λ i q c. absurd (u .uncalibrated c);
+        unverified = λ i b q. absurd (never-both r q);
+        refused = λ i b q. w;
+        wrong-length = λ ne. absurd (ne h);
+      }
+  made-by (Meaning.wrong-length ne w) =
+      record {
+        verified = λ i q. absurd (ne i);
+        calibrated = λ i q c. absurd (ne i);
+        unverified = λ i u q. absurd (ne i);
+        refused = λ i u q. absurd (ne i);
+        wrong-length = λ no-more. w;
+      }
+
+  supplied-meaning : Meaning lim number bv shifted n o s
+  supplied-meaning = means (ℕ-discrete (length shifted) 4080)
+
+pub supplied-means : SuppliedMeans
+supplied-means =
+    record {
+      every = supplied-meaning;
+      said = λ lim number bv shifted n o. said-by lim number bv shifted n o (supplied-meaning lim number bv shifted n o);
+      made = λ lim number bv shifted n o. made-by lim number bv shifted n o (supplied-meaning lim number bv shifted n o);
+    }

@@ -266,7 +266,9 @@ module _ (lim number : ℕ) (shifted anchors : List ℕ) (n : ℕ) (o : Options)
       }))
       (λ e. record { ruled = λ q. absurd (never-both refl q) })
 
-  pub chosen-stands : isAccepted (choiceOf lim number shifted anchors n o .answer) ≡ true → Chosen lim shifted anchors n t (choiceOf lim number shifted anchors n o)
+  pub chosen-stands :
+      isAccepted (choiceOf lim number shifted anchors n o .answer) ≡ true
+      → Chosen lim shifted anchors n t (choiceOf lim number shifted anchors n o)
   chosen-stands good =
       let c : Choice = choiceOf lim number shifted anchors n o in
       let r = ruled-choice .ruled good in

@@ -5,7 +5,7 @@ use mathlib.Core.Bool.{Bool, true, false}
 use mathlib.Core.List.{List}
 use lib.ListN.{length}
 use Rattle.lists.specs.Bytes.{plainOf}
-use Rattle.answers.specs.Answers.{noBvs}
+use Rattle.answers.specs.Answers.{numberOf, noBvs}
 use Rattle.answers.specs.Settings.{keystream}
 use Rattle.answers.specs.Trust.{noGrounds}
 use Rattle.answers.specs.declared.kinds.Answer.{Answer}
@@ -47,6 +47,11 @@ module _ (lim number bv : ℕ) (shifted : List ℕ) (n : ℕ) (o : Options) (s :
   abbrev t : ℕ
   t = o .«min_trailer_count»
 
+  -- "Neither calibrated nor verified"
+  pub record Unbacked : Type 0 where
+    pub unpassed : passes lim bv shifted n t ≡ false
+    pub uncalibrated : Calibrates shifted bv → ⊥
+
   -- it is taken, so far trusted and with such a warning, and its evidence is all that holds
   pub record TakenAs (k : Confidence) (w : WarningKind) : Type 0 where
     pub answered : s .answer ≡ answer.Accepted
@@ -67,22 +72,38 @@ module _ (lim number bv : ℕ) (shifted : List ℕ) (n : ℕ) (o : Options) (s :
     pub unlisted : s .group ≡ noBvs
     pub warned : s .warned ≡ warning.Nothing
 
-  -- one of these, for 4,080 shifted bytes one of the first four: no two of them can be, so each is where its premises are and nowhere else
-  pub data Outcome : Type 0 where
-    verified : length shifted ≡ 4080 → passes lim bv shifted n t ≡ true → TakenAs confidence.Verified warning.Nothing → Outcome
-    calibrated : length shifted ≡ 4080 → passes lim bv shifted n t ≡ false → Calibrates shifted bv → TakenAs confidence.Calibrated warning.Nothing → Outcome
+  -- one of these
+  pub data Meaning : Type 0 where
+    verified : length shifted ≡ 4080 → passes lim bv shifted n t ≡ true → TakenAs confidence.Verified warning.Nothing → Meaning
+    calibrated : length shifted ≡ 4080 → passes lim bv shifted n t ≡ false → Calibrates shifted bv → TakenAs confidence.Calibrated warning.Nothing → Meaning
     unverified :
-        length shifted ≡ 4080
-        → passes lim bv shifted n t ≡ false
-        → (Calibrates shifted bv → ⊥)
-        → keystream o ≡ true
-        → TakenAs confidence.Unverified (warning.UnverifiedKeystream bv)
-        → Outcome
-    refused :
-        length shifted ≡ 4080 → passes lim bv shifted n t ≡ false → (Calibrates shifted bv → ⊥) → keystream o ≡ false → RefusedAs (answer.KeystreamUnverified number bv) → Outcome
-    wrong-length : (length shifted ≡ 4080 → ⊥) → RefusedAs (answer.WrongBufferLength (length shifted)) → Outcome
+        length shifted ≡ 4080 → Unbacked → keystream o ≡ true → TakenAs confidence.Unverified (warning.UnverifiedKeystream bv) → Meaning
+    refused : length shifted ≡ 4080 → Unbacked → keystream o ≡ false → RefusedAs (answer.KeystreamUnverified number bv) → Meaning
+    wrong-length : (length shifted ≡ 4080 → ⊥) → RefusedAs (answer.WrongBufferLength (length shifted)) → Meaning
 
-pub record Backed : Type 0 where
-  pub supplied :
+  -- what its confidence and its answer say of the page
+  pub record Said : Type 0 where
+    pub verified : s .confidence ≡ confidence.Verified → passes lim bv shifted n t ≡ true
+    pub calibrated : s .confidence ≡ confidence.Calibrated → (passes lim bv shifted n t ≡ false) × Calibrates shifted bv
+    pub unverified : s .confidence ≡ confidence.Unverified → Unbacked × (keystream o ≡ true)
+    pub refused : numberOf (s .answer) ≡ 6 → Unbacked × (keystream o ≡ false)
+    pub wrong-length : numberOf (s .answer) ≡ 2 → length shifted ≡ 4080 → ⊥
+
+  -- what a page makes of it
+  pub record Made : Type 0 where
+    pub verified : length shifted ≡ 4080 → passes lim bv shifted n t ≡ true → TakenAs confidence.Verified warning.Nothing
+    pub calibrated :
+        length shifted ≡ 4080 → passes lim bv shifted n t ≡ false → Calibrates shifted bv → TakenAs confidence.Calibrated warning.Nothing
+    pub unverified : length shifted ≡ 4080 → Unbacked → keystream o ≡ true → TakenAs confidence.Unverified (warning.UnverifiedKeystream bv)
+    pub refused : length shifted ≡ 4080 → Unbacked → keystream o ≡ false → RefusedAs (answer.KeystreamUnverified number bv)
+    pub wrong-length : (length shifted ≡ 4080 → ⊥) → RefusedAs (answer.WrongBufferLength (length shifted))
+
+pub record SuppliedMeans : Type 0 where
+  -- every supplied bv is one of the five; so its marks say what holds of the page, and what holds of the page decides it
+  pub every :
       (lim number bv : ℕ) (shifted : List ℕ) (n : ℕ) (o : Options)
-      → Outcome lim number bv shifted n o (suppliedOf lim number bv shifted n o)
+      → Meaning lim number bv shifted n o (suppliedOf lim number bv shifted n o)
+  pub said :
+      (lim number bv : ℕ) (shifted : List ℕ) (n : ℕ) (o : Options) → Said lim number bv shifted n o (suppliedOf lim number bv shifted n o)
+  pub made :
+      (lim number bv : ℕ) (shifted : List ℕ) (n : ℕ) (o : Options) → Made lim number bv shifted n o (suppliedOf lim number bv shifted n o)
