@@ -117,7 +117,7 @@ leads-alone shifted bv x y a b = omega (arith, a .lead-is, b .lead-is, below (a 
     below zero c d e = omega arith
     below (suc m) c d e =
         let z : BestOther shifted bv (c .best) = c .met (omega arith) in
-        omega (arith, z .zeros, d .most (z .value) (z .byte) (z .stands) (z .differs))
+        omega (arith, z .zeros, d .most (z .value) (z .other))
 
 module _ (lim : ℕ) (shifted anchors : List ℕ) (n t bv : ℕ) (b : AllBytes shifted) where
   abbrev a : Assessment
@@ -137,9 +137,9 @@ module _ (lim : ℕ) (shifted anchors : List ℕ) (n t bv : ℕ) (b : AllBytes s
   unfolding candidateOf
   others v ne = ap not (ne-eqb v bv ne)
 
-  other : (v : ℕ) → belongs (Others bv) (at v) ≡ true → v ≡ bv → ⊥
+  differs : (v : ℕ) → belongs (Others bv) (at v) ≡ true → v ≡ bv → ⊥
   unfolding candidateOf
-  other v h e = never-both (ap not (eq-eqb v bv e)) h
+  differs v h e = never-both (ap not (eq-eqb v bv e)) h
 
   module _ (few : a .candidates .len ≤ 8) where
     most : Most (standsFor shifted) at (belongs (Others bv)) 256 best
@@ -152,15 +152,13 @@ module _ (lim : ℕ) (shifted anchors : List ℕ) (n t bv : ℕ) (b : AllBytes s
     leads =
         record {
           best = best;
-          most = λ v h s ne. omega (arith, zeros-are v h, most .above v h s (others v ne));
+          most = λ v q. omega (arith, zeros-are v (q .stands .byte), most .above v (q .stands .byte) (q .stands .candidate) (others v (q .differs)));
           met =
               λ h.
               let m : Met (standsFor shifted) at (belongs (Others bv)) 256 best = most .met h in
               record {
                 value = m .at;
-                byte = m .within;
-                stands = m .passes;
-                differs = other (m .at) (m .kept);
+                other = record { stands = record { byte = m .within; candidate = m .passes }; differs = differs (m .at) (m .kept) };
                 zeros = sym (zeros-are (m .at) (m .within)) ∙ m .is;
               };
           lead-is = refl;

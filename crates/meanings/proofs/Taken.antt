@@ -191,7 +191,7 @@ module _
 -- ---- the assessment of a page's shifted bytes
 
 -- a candidate for the page: its value is one that stands, and it is told of that value
-record Stands (lim : ℕ) (shifted anchors : List ℕ) (n t : ℕ) (c : Candidate) : Type 0 where
+record Proper (lim : ℕ) (shifted anchors : List ℕ) (n t : ℕ) (c : Candidate) : Type 0 where
   byte : c .bv < 256
   stands : standsFor shifted (c .bv) ≡ true
   is : c ≡ candidateOf lim shifted anchors n t (c .bv)
@@ -201,7 +201,7 @@ module _ (lim : ℕ) (shifted anchors : List ℕ) (n t : ℕ) where
   assessment = assessmentOf lim shifted anchors n t
 
   abbrev P : Candidate → Type 0
-  P = Stands lim shifted anchors n t
+  P = Proper lim shifted anchors n t
 
   stands-below : (bound : ℕ) → bound ≤ 256 → AllOf P (candidatesBelow lim shifted anchors n t bound)
   unfolding AllOf candidatesBelow among candidateOf standsFor
@@ -276,8 +276,8 @@ module _ (lim number : ℕ) (shifted anchors : List ℕ) (n : ℕ) (o : Options)
       let few : a .candidates .len ≤ 8 = r .1 in
       let rule : c ≡ ruleOne number (keystream o) a = r .2 in
       let some : 0 < length shifted = omega arith in
-      let k : Taking (Stands lim shifted anchors n t) a c =
-      subst (Takes (Stands lim shifted anchors n t) a) (sym rule) (takes-ruled lim shifted anchors n t few some b number (keystream o)) .made good in
+      let k : Taking (Proper lim shifted anchors n t) a c =
+      subst (Takes (Proper lim shifted anchors n t) a) (sym rule) (takes-ruled lim shifted anchors n t few some b number (keystream o)) .made good in
       record {
         few = few;
         long = long;

@@ -15,7 +15,8 @@ use Rattle.answers.specs.declared.settings.Options.{Options}
 use Rattle.slots.specs.Slots.{rowCountMatches}
 use Rattle.choice.specs.declared.Choice.{Choice}
 use Rattle.choice.specs.Rules.{choiceOf}
-use Rattle.meanings.specs.Values.{votesFor, dissentFrom, zerosWith, standsFor}
+use Rattle.meanings.specs.Values.{votesFor, dissentFrom, zerosWith}
+use Rattle.meanings.specs.Sources.{Other}
 
 -- ---- a table of evidence
 
@@ -40,15 +41,13 @@ pub record Tells (Holds : Evidence → Type 0) (g : Grounds) : Type 0 where
 -- another candidate than bv that leaves m data bytes zero
 pub record BestOther (shifted : List ℕ) (bv m : ℕ) : Type 0 where
   pub value : ℕ
-  pub byte : value < 256
-  pub stands : standsFor shifted value ≡ true
-  pub differs : value ≡ bv → ⊥
+  pub other : Other shifted bv value
   pub zeros : zerosWith shifted value ≡ m
 
 -- "lead over the best other candidate, never below 0": no other candidate leaves more than `best` data bytes zero, and one leaves so many unless it is 0
 pub record Leads (shifted : List ℕ) (bv lead : ℕ) : Type 0 where
   pub best : ℕ
-  pub most : (v : ℕ) → v < 256 → standsFor shifted v ≡ true → (v ≡ bv → ⊥) → zerosWith shifted v ≤ best
+  pub most : (v : ℕ) → Other shifted bv v → zerosWith shifted v ≤ best
   pub met : 0 < best → BestOther shifted bv best
   pub lead-is : lead ≡ zerosWith shifted bv - best
 
