@@ -8,3 +8,6 @@ pub mod Shapes
 pub mod StoredBytes
 pub mod Masses
 pub mod WarningTable
+pub mod KeyedSectors
+pub mod SoundPages
+pub mod Accepted
