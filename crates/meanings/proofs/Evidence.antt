@@ -1,28 +1,27 @@
 -- THE EVIDENCE OF AN ACCEPTED CHOICE, proved. Assumes nothing.
 use Prim.Native.Nat.{ℕ, zero, suc, _-_, _≤_, _<_, max}
 use mathlib.Core.Path.{_≡_, refl, sym, ap, ap₂, _∙_, subst}
-use mathlib.Core.Bool.{Bool, true, false, not}
+use mathlib.Core.Bool.{Bool, true, false, _&&_, not}
 use mathlib.Core.List.{List, [], _∷_, _++_, append-nil}
 use mathlib.Core.Logic.{⊎-elim}
 use native.Mathlib.Nat.{eq-or-lt-of-le, le-of-suc-le-suc}
 use native.Mathlib.Omega.{arith}
 use borrow.Author.Tests.{lt-ltb, ltb-true, ltb-false, eq-eqb, ne-eqb}
-use lib.Dec.{ltb}
+use lib.Dec.{eqb, ltb}
 use lib.ListN.{length}
 use Rattle.lists.specs.Bytes.{plainOf, AllBytes}
 use Rattle.lists.specs.Cases.{pick}
 use Rattle.lists.specs.Counts.{isIn}
-use Rattle.lists.specs.Pieces.{among, keep, fold}
+use Rattle.lists.specs.Pieces.{among, fold}
 use Rattle.lists.proofs.Booleans.{and-yes, and-left, and-right}
 use Rattle.lists.proofs.Fold.{fold-last}
-use Rattle.lists.proofs.Keep.{keep-append}
 use Rattle.lists.proofs.Picks.{never-both}
 use Rattle.answers.specs.Trust.{evidenceNumber, noGrounds, withGround, groundIf}
 use Rattle.answers.specs.declared.trust.Evidence.{Evidence}
 use Rattle.answers.specs.declared.trust.Evidence.the-variants as evidence
 use Rattle.answers.specs.declared.trust.Grounds.{Grounds}
 use Rattle.slots.specs.Slots.{rowCountMatches}
-use Rattle.votes.specs.Votes.{ballots, isVerified, candidateOf, candidatesBelow, assessmentOf}
+use Rattle.votes.specs.Votes.{ballots, isVerified, candidateOf, assessmentOf}
 use Rattle.votes.specs.declared.Candidate.{Candidate}
 use Rattle.votes.specs.declared.Assessment.{Assessment}
 use Rattle.groups.specs.declared.Group.the-variants.{Others}
@@ -30,82 +29,61 @@ use Rattle.groups.specs.Groups.{belongs, group, orZeros, mostOf}
 use Rattle.choice.specs.declared.Choice.{Choice}
 use Rattle.choice.specs.Rules.{groundsOf, choiceOf}
 use Rattle.meanings.specs.Values.{votesFor, dissentFrom, zerosWith, standsFor}
+use Rattle.meanings.specs.Sources.{Other}
 use Rattle.meanings.specs.Evidence.{Tells, BestOther, Leads, Supports, Evidenced}
 use Rattle.meanings.proofs.Values.{ballots-number, ballots-at, exact-parted, zeros-at}
-use Rattle.meanings.proofs.Taken.{Chosen, all-listed, chosen-stands}
+use Rattle.meanings.proofs.Standing.{group-values}
+use Rattle.meanings.proofs.Taken.{Chosen, chosen-stands}
 use Rattle.meanings.proofs.EvidenceTable.{UpTo, Kind, up-none, up-next, up-all}
 
--- ---- the greatest count among those that pass two tests
+-- ---- the greatest count among those that pass a test
 
-record Met (p : ℕ → Bool) (f : ℕ → Candidate) (q : Candidate → Bool) (n m : ℕ) : Type 0 where
+record Met (p : ℕ → Bool) (f : ℕ → Candidate) (n m : ℕ) : Type 0 where
   at : ℕ
   within : at < n
   passes : p at ≡ true
-  kept : q (f at) ≡ true
   is : f at .zeros ≡ m
 
-record Most (p : ℕ → Bool) (f : ℕ → Candidate) (q : Candidate → Bool) (n m : ℕ) : Type 0 where
-  above : (k : ℕ) → k < n → p k ≡ true → q (f k) ≡ true → f k .zeros ≤ m
-  met : 0 < m → Met p f q n m
+record Most (p : ℕ → Bool) (f : ℕ → Candidate) (n m : ℕ) : Type 0 where
+  above : (k : ℕ) → k < n → p k ≡ true → f k .zeros ≤ m
+  met : 0 < m → Met p f n m
 
-module _ (p : ℕ → Bool) (f : ℕ → Candidate) (q : Candidate → Bool) where
-  met-later : (n m : ℕ) → Met p f q n m → Met p f q (suc n) m
-  met-later n m w = record { at = w .at; within = omega (arith, w .within); passes = w .passes; kept = w .kept; is = w .is }
+module _ (p : ℕ → Bool) (f : ℕ → Candidate) where
+  met-later : (n m : ℕ) → Met p f n m → Met p f (suc n) m
+  met-later n m w = record { at = w .at; within = omega (arith, w .within); passes = w .passes; is = w .is }
 
   -- the next number does not pass
-  most-not : (n m : ℕ) → (p n ≡ true → q (f n) ≡ true → ⊥) → Most p f q n m → Most p f q (suc n) m
-  most-not n m no-more w =
+  most-not : (n m : ℕ) → p n ≡ false → Most p f n m → Most p f (suc n) m
+  most-not n m e w =
       record {
-        above =
-            λ k h a b.
-            ⊎-elim (λ e. absurd (no-more (ap p (sym e) ∙ a) (ap (λ (i : ℕ). q (f i)) (sym e) ∙ b))) (λ l. w .above k l a b)
-            (eq-or-lt-of-le (le-of-suc-le-suc h));
+        above = λ k h a. ⊎-elim (λ q. absurd (never-both e (ap p (sym q) ∙ a))) (λ l. w .above k l a) (eq-or-lt-of-le (le-of-suc-le-suc h));
         met = λ h. met-later n m (w .met h);
       }
 
   -- it passes
-  most-more : (n m : ℕ) → p n ≡ true → q (f n) ≡ true → Most p f q n m → Most p f q (suc n) (max m (f n .zeros))
-  most-more n m a b w =
+  most-more : (n m : ℕ) → p n ≡ true → Most p f n m → Most p f (suc n) (max m (f n .zeros))
+  most-more n m e w =
       record {
         above =
-            λ k h c d.
-            ⊎-elim (λ e. omega (arith, ap (λ (i : ℕ). f i .zeros) e)) (λ l. omega (arith, w .above k l c d)) (eq-or-lt-of-le (le-of-suc-le-suc h));
+            λ k h a.
+            ⊎-elim (λ q. omega (arith, ap (λ (i : ℕ). f i .zeros) q)) (λ l. omega (arith, w .above k l a)) (eq-or-lt-of-le (le-of-suc-le-suc h));
         met = λ h. go h (ltb (f n .zeros) m) refl;
       }
     where
-      go : 0 < max m (f n .zeros) → (t : Bool) → ltb (f n .zeros) m ≡ t → Met p f q (suc n) (max m (f n .zeros))
-      go h true e =
-          let is : m ≡ max m (f n .zeros) = omega (arith, ltb-true (f n .zeros) m e) in
-          subst (Met p f q (suc n)) is (met-later n m (w .met (omega arith)))
-      go h false e = record { at = n; within = omega arith; passes = a; kept = b; is = omega (arith, ltb-false (f n .zeros) m e) }
+      go : 0 < max m (f n .zeros) → (t : Bool) → ltb (f n .zeros) m ≡ t → Met p f (suc n) (max m (f n .zeros))
+      go h true q =
+          let is : m ≡ max m (f n .zeros) = omega (arith, ltb-true (f n .zeros) m q) in
+          subst (Met p f (suc n)) is (met-later n m (w .met (omega arith)))
+      go h false q = record { at = n; within = omega arith; passes = e; is = omega (arith, ltb-false (f n .zeros) m q) }
 
-  most-among : (n : ℕ) → Most p f q n (mostOf (keep q (among p f n)))
-  unfolding among keep mostOf fold
-  most-among zero = record { above = λ k h a b. absurd (omega arith); met = λ h. absurd (omega arith) }
-  most-among (suc n) = go (p n) refl (q (f n)) refl (most-among n)
+  most-among : (n : ℕ) → Most p f n (mostOf (among p f n))
+  unfolding among mostOf fold
+  most-among zero = record { above = λ k h a. absurd (omega arith); met = λ h. absurd (omega arith) }
+  most-among (suc n) = go (p n) refl (most-among n)
     where
-      go :
-          (b : Bool)
-          → p n ≡ b
-          → (c : Bool)
-          → q (f n) ≡ c
-          → Most p f q n (mostOf (keep q (among p f n)))
-          → Most p f q (suc n) (mostOf (keep q (among p f n ++ pick b (f n ∷ []) [])))
-      go false e c d ih =
-          subst (λ (l : List Candidate). Most p f q (suc n) (mostOf (keep q l))) (sym (append-nil (among p f n)))
-          (most-not n (mostOf (keep q (among p f n))) (λ x y. never-both e x) ih)
-      go true e false d ih =
-          subst (λ (l : List Candidate). Most p f q (suc n) (mostOf l)) (sym (keep-append q (among p f n) (f n ∷ []) ∙ one d))
-          (most-not n (mostOf (keep q (among p f n))) (λ x y. never-both d y) ih)
-        where
-          one : q (f n) ≡ false → keep q (among p f n) ++ keep q (f n ∷ []) ≡ keep q (among p f n)
-          one x = rw x (append-nil (keep q (among p f n)))
-      go true e true d ih =
-          subst (Most p f q (suc n)) (sym (ap mostOf (keep-append q (among p f n) (f n ∷ [])) ∙ one d))
-          (most-more n (mostOf (keep q (among p f n))) e d ih)
-        where
-          one : q (f n) ≡ true → mostOf (keep q (among p f n) ++ keep q (f n ∷ [])) ≡ max (mostOf (keep q (among p f n))) (f n .zeros)
-          one x = rw x (fold-last orZeros 0 (keep q (among p f n)) (f n))
+      go : (b : Bool) → p n ≡ b → Most p f n (mostOf (among p f n)) → Most p f (suc n) (mostOf (among p f n ++ pick b (f n ∷ []) []))
+      go false e ih = subst (λ (l : List Candidate). Most p f (suc n) (mostOf l)) (sym (append-nil (among p f n))) (most-not n (mostOf (among p f n)) e ih)
+      go true e ih = subst (Most p f (suc n)) (sym (fold-last orZeros 0 (among p f n) (f n))) (most-more n (mostOf (among p f n)) e ih)
 
 -- ---- the lead
 
@@ -133,34 +111,36 @@ module _ (lim : ℕ) (shifted anchors : List ℕ) (n t bv : ℕ) (b : AllBytes s
   unfolding candidateOf
   zeros-are v h = zeros-at shifted v h b
 
-  others : (v : ℕ) → (v ≡ bv → ⊥) → belongs (Others bv) (at v) ≡ true
-  unfolding candidateOf
-  others v ne = ap not (ne-eqb v bv ne)
+  abbrev isOther : ℕ → Bool
+  isOther v = standsFor shifted v && belongs (Others bv) (at v)
 
-  differs : (v : ℕ) → belongs (Others bv) (at v) ≡ true → v ≡ bv → ⊥
+  is-other : (v : ℕ) → Other shifted bv v → isOther v ≡ true
   unfolding candidateOf
-  differs v h e = never-both (ap not (eq-eqb v bv e)) h
+  is-other v q = and-yes (standsFor shifted v) (not (eqb v bv)) (q .stands .candidate) (ap not (ne-eqb v bv (q .differs)))
+
+  other-is : (v : ℕ) → v < 256 → isOther v ≡ true → Other shifted bv v
+  unfolding candidateOf
+  other-is v h e =
+      record {
+        stands = record { byte = h; candidate = and-left (standsFor shifted v) (not (eqb v bv)) e };
+        differs = λ q. never-both (ap not (eq-eqb v bv q)) (and-right (standsFor shifted v) (not (eqb v bv)) e);
+      }
 
   module _ (few : a .candidates .len ≤ 8) where
-    most : Most (standsFor shifted) at (belongs (Others bv)) 256 best
-    unfolding candidatesBelow standsFor
+    most : Most isOther at 256 best
     most =
-        subst (λ (l : List Candidate). Most (standsFor shifted) at (belongs (Others bv)) 256 (mostOf (keep (belongs (Others bv)) l)))
-        (sym (all-listed lim shifted anchors n t few)) (most-among (standsFor shifted) at (belongs (Others bv)) 256)
+        subst (λ (l : List Candidate). Most isOther at 256 (mostOf l)) (sym (group-values lim shifted anchors n t few (Others bv)))
+        (most-among isOther at 256)
 
     leads : Leads shifted bv (zerosWith shifted bv - best)
     leads =
         record {
           best = best;
-          most = λ v q. omega (arith, zeros-are v (q .stands .byte), most .above v (q .stands .byte) (q .stands .candidate) (others v (q .differs)));
+          most = λ v q. omega (arith, zeros-are v (q .stands .byte), most .above v (q .stands .byte) (is-other v q));
           met =
               λ h.
-              let m : Met (standsFor shifted) at (belongs (Others bv)) 256 best = most .met h in
-              record {
-                value = m .at;
-                other = record { stands = record { byte = m .within; candidate = m .passes }; differs = differs (m .at) (m .kept) };
-                zeros = sym (zeros-are (m .at) (m .within)) ∙ m .is;
-              };
+              let m : Met isOther at 256 best = most .met h in
+              record { value = m .at; other = other-is (m .at) (m .within) (m .passes); zeros = sym (zeros-are (m .at) (m .within)) ∙ m .is };
           lead-is = refl;
         }
 

@@ -47,7 +47,7 @@ module _ (lim : ℕ) (shifted anchors : List ℕ) (n t : ℕ) where
   many-candidates h = lt-cases (8 < candidateNumber shifted) 8 (candidateNumber shifted) (λ k. k) (λ k. absurd (omega (arith, few-candidates k)))
 
   module _ (few : assessment .candidates .len ≤ 8) where
-    all-listed : listed (assessment .candidates) ≡ candidatesBelow lim shifted anchors n t 256
+    pub all-listed : listed (assessment .candidates) ≡ candidatesBelow lim shifted anchors n t 256
     unfolding assessmentOf
     all-listed = tabled-listed (candidatesBelow lim shifted anchors n t 256) few
 

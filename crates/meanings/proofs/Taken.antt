@@ -29,7 +29,6 @@ use Rattle.answers.specs.declared.settings.Options.{Options}
 use Rattle.votes.specs.Votes.{countsOf, ballots, topOf, candidateOf, candidatesBelow, assessmentOf, listed}
 use Rattle.votes.specs.declared.Candidate.{Candidate}
 use Rattle.votes.specs.declared.Assessment.{Assessment}
-use Rattle.votes.proofs.CandidateTable.{tabled-listed}
 use Rattle.votes.proofs.Meaning.{top-byte, top-candidate}
 use Rattle.groups.specs.declared.Group.{Group}
 use Rattle.groups.specs.declared.Group.the-variants.{Verified, Voted, Only, Rivals, Contest}
@@ -37,6 +36,7 @@ use Rattle.groups.specs.Groups.{firstOf, isRival, belongs, group, outranks, hig
 use Rattle.choice.specs.declared.Choice.{Choice}
 use Rattle.choice.specs.Rules.{groundsOf, takenOf, refusedOf, ambiguousOf, unverifiedOf, topCandidate, isCorroborated, ruleFour, ruleThree, isCalibrated, ruleTwo, soleOf, ruleOne, chosen, choiceOf}
 use Rattle.meanings.specs.Values.{standsFor}
+use Rattle.meanings.proofs.Standing.{all-listed}
 
 -- what holds of every candidate of a list
 unfoldable AllOf : (Candidate → Type 0) → List Candidate → Type 0
@@ -211,12 +211,8 @@ module _ (lim : ℕ) (shifted anchors : List ℕ) (n t : ℕ) where
       (pick-case (AllOf P) (standsFor shifted v) (candidateOf lim shifted anchors n t v ∷ []) []
       (λ e. (record { byte = omega arith; stands = e; is = refl }, tt)) (λ e. tt))
 
-  -- at most eight candidates: the table has them all, and the top is one of them
+  -- at most eight candidates: the top is one of those in the table
   module _ (few : assessment .candidates .len ≤ 8) where
-    pub all-listed : listed (assessment .candidates) ≡ candidatesBelow lim shifted anchors n t 256
-    unfolding assessmentOf
-    all-listed = tabled-listed (candidatesBelow lim shifted anchors n t 256) few
-
     top-bv : candidateOf lim shifted anchors n t (topOf (countsOf shifted)) .bv ≡ topOf (countsOf shifted)
     unfolding candidateOf
     top-bv = refl
@@ -226,13 +222,13 @@ module _ (lim : ℕ) (shifted anchors : List ℕ) (n t : ℕ) where
       unfolding assessmentOf candidatesBelow standsFor
       top-found =
           let v : ℕ = topOf (countsOf shifted) in
-          subst (λ (l : List Candidate). 0 < length (keep (belongs (Only v)) l)) (sym all-listed)
+          subst (λ (l : List Candidate). 0 < length (keep (belongs (Only v)) l)) (sym (all-listed lim shifted anchors n t few))
           (keep-among (standsFor shifted) (candidateOf lim shifted anchors n t) (belongs (Only v)) 256 v (top-byte (countsOf shifted))
           (top-candidate shifted (countsOf (ballots shifted)) h b) (eq-eqb _ v top-bv))
 
       takes-ruled : (number : ℕ) (lenient : Bool) → Takes P assessment (ruleOne number lenient assessment)
       takes-ruled number lenient =
-          takes-one P number lenient assessment (subst (AllOf P) (sym all-listed) (stands-below 256 (omega arith))) top-found
+          takes-one P number lenient assessment (subst (AllOf P) (sym (all-listed lim shifted anchors n t few)) (stands-below 256 (omega arith))) top-found
 
 -- of an accepted choice: at most eight candidates stand, and one of them was taken
 pub record Chosen (lim : ℕ) (shifted anchors : List ℕ) (n t : ℕ) (c : Choice) : Type 0 where
