@@ -152,7 +152,7 @@ module _ (lim number bv : ℕ) (shifted : List ℕ) (n : ℕ) (o : Options) wher
       let e : length (ballots shifted) - v ≡ d = omega (arith, ballots-number shifted, exact-parted shifted bv) in
       rw (eq-eqb (length shifted) 4080 h, ballots-count shifted bv, e)
 
-  unbacked : m ≡ false → agreed ≡ false → Unbacked lim number bv shifted n o s
+  unbacked : m ≡ false → agreed ≡ false → Unbacked lim bv shifted n t
   unbacked p q = record { unpassed = p; uncalibrated = calibrates-not q }
 
   module _ (h : length shifted ≡ 4080) where

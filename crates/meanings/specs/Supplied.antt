@@ -34,6 +34,11 @@ module _ (lim bv : ℕ) (shifted : List ℕ) (n t : ℕ) where
   abbrev pub passes : Bool
   passes = rowCountMatches lim (plainOf bv shifted) n t
 
+  -- "Neither calibrated nor verified"
+  pub record Unbacked : Type 0 where
+    pub unpassed : passes ≡ false
+    pub uncalibrated : Calibrates shifted bv → ⊥
+
   -- when each piece of evidence holds of a supplied bv: "no zero mass", and no anchor
   unfoldable pub Backs : Evidence → Type 0
   Backs evidence.Nothing = ⊥
@@ -46,11 +51,6 @@ module _ (lim bv : ℕ) (shifted : List ℕ) (n t : ℕ) where
 module _ (lim number bv : ℕ) (shifted : List ℕ) (n : ℕ) (o : Options) (s : Choice) where
   abbrev t : ℕ
   t = o .«min_trailer_count»
-
-  -- "Neither calibrated nor verified"
-  pub record Unbacked : Type 0 where
-    pub unpassed : passes lim bv shifted n t ≡ false
-    pub uncalibrated : Calibrates shifted bv → ⊥
 
   -- it is taken, so far trusted and with such a warning, and its evidence is all that holds
   pub record TakenAs (k : Confidence) (w : WarningKind) : Type 0 where
@@ -77,16 +77,16 @@ module _ (lim number bv : ℕ) (shifted : List ℕ) (n : ℕ) (o : Options) (s :
     verified : length shifted ≡ 4080 → passes lim bv shifted n t ≡ true → TakenAs confidence.Verified warning.Nothing → Meaning
     calibrated : length shifted ≡ 4080 → passes lim bv shifted n t ≡ false → Calibrates shifted bv → TakenAs confidence.Calibrated warning.Nothing → Meaning
     unverified :
-        length shifted ≡ 4080 → Unbacked → keystream o ≡ true → TakenAs confidence.Unverified (warning.UnverifiedKeystream bv) → Meaning
-    refused : length shifted ≡ 4080 → Unbacked → keystream o ≡ false → RefusedAs (answer.KeystreamUnverified number bv) → Meaning
+        length shifted ≡ 4080 → Unbacked lim bv shifted n t → keystream o ≡ true → TakenAs confidence.Unverified (warning.UnverifiedKeystream bv) → Meaning
+    refused : length shifted ≡ 4080 → Unbacked lim bv shifted n t → keystream o ≡ false → RefusedAs (answer.KeystreamUnverified number bv) → Meaning
     wrong-length : (length shifted ≡ 4080 → ⊥) → RefusedAs (answer.WrongBufferLength (length shifted)) → Meaning
 
   -- what its confidence and its answer say of the page
   pub record Said : Type 0 where
     pub verified : s .confidence ≡ confidence.Verified → passes lim bv shifted n t ≡ true
     pub calibrated : s .confidence ≡ confidence.Calibrated → (passes lim bv shifted n t ≡ false) × Calibrates shifted bv
-    pub unverified : s .confidence ≡ confidence.Unverified → Unbacked × (keystream o ≡ true)
-    pub refused : numberOf (s .answer) ≡ 6 → Unbacked × (keystream o ≡ false)
+    pub unverified : s .confidence ≡ confidence.Unverified → Unbacked lim bv shifted n t × (keystream o ≡ true)
+    pub refused : numberOf (s .answer) ≡ 6 → Unbacked lim bv shifted n t × (keystream o ≡ false)
     pub wrong-length : numberOf (s .answer) ≡ 2 → length shifted ≡ 4080 → ⊥
 
   -- what a page makes of it
@@ -94,8 +94,8 @@ module _ (lim number bv : ℕ) (shifted : List ℕ) (n : ℕ) (o : Options) (s :
     pub verified : length shifted ≡ 4080 → passes lim bv shifted n t ≡ true → TakenAs confidence.Verified warning.Nothing
     pub calibrated :
         length shifted ≡ 4080 → passes lim bv shifted n t ≡ false → Calibrates shifted bv → TakenAs confidence.Calibrated warning.Nothing
-    pub unverified : length shifted ≡ 4080 → Unbacked → keystream o ≡ true → TakenAs confidence.Unverified (warning.UnverifiedKeystream bv)
-    pub refused : length shifted ≡ 4080 → Unbacked → keystream o ≡ false → RefusedAs (answer.KeystreamUnverified number bv)
+    pub unverified : length shifted ≡ 4080 → Unbacked lim bv shifted n t → keystream o ≡ true → TakenAs confidence.Unverified (warning.UnverifiedKeystream bv)
+    pub refused : length shifted ≡ 4080 → Unbacked lim bv shifted n t → keystream o ≡ false → RefusedAs (answer.KeystreamUnverified number bv)
     pub wrong-length : (length shifted ≡ 4080 → ⊥) → RefusedAs (answer.WrongBufferLength (length shifted))
 
 pub record SuppliedMeans : Type 0 where
