@@ -1,16 +1,13 @@
 -- DEMAND 3: after any sequence of replacements, repeats and refused ones included, the kept summary, and the decodings made from it with the
 -- same anchors and options, are those of the final page read afresh; on an alien summary a replacement changes nothing of the other seven
 -- sectors. The contracts of `decode_summary` and `decode_page` are the two sides. Assumes nothing.
-use Prim.Native.Nat.{ℕ, _-_, _*_}
+use Prim.Native.Nat.{ℕ, _*_}
 use mathlib.Core.Path.{_≡_}
-use mathlib.Core.Bool.{Bool, _&&_}
 use mathlib.Core.List.{List, [], _∷_}
-use lib.Dec.{eqb, ltb}
 use lib.ListN.{length}
-use Rattle.lists.specs.Cases.{pick}
 use Rattle.lists.specs.Pieces.{over}
 use Rattle.answers.specs.declared.settings.Options.{Options}
-use Rattle.summary.specs.Page.{sectorEnd}
+use Rattle.summary.specs.Replace.{ifReplaced}
 use Rattle.summary.specs.State.{State, Replacement, Taken, OneSector, atScan, after, afterAll}
 use Rattle.verdict.specs.declared.Decoding.{Decoding}
 use Rattle.decode.specs.Decode.{decodingOf, suppliedDecodingOf, writtenOf}
@@ -18,13 +15,9 @@ use Rattle.demands.specs.Demand2.{readPage, readWith, leftIn}
 
 -- ---- a page of which sectors are replaced, one after the other, with no summary beside it
 
--- "512 bytes for sectors 0 to 6, 496 for sector 7"
-unfoldable pub fitsIn : Replacement → Bool
-fitsIn r = ltb (r .sector) 8 && eqb (length (r .new)) (sectorEnd (r .sector) - r .sector * 512)
-
--- "It writes them into the lent stored page"; one that is refused changes nothing
+-- "It writes them into the lent stored page"; one that is refused beside a page and a buffer of the right lengths changes nothing
 unfoldable pub editedBy : List ℕ → Replacement → List ℕ
-editedBy stored r = pick (fitsIn r) (over stored (r .sector * 512) (r .new)) stored
+editedBy stored r = ifReplaced (r .sector) (r .new) 4096 4080 (over stored (r .sector * 512) (r .new)) stored
 
 unfoldable pub edited : List ℕ → List Replacement → List ℕ
 edited stored [] = stored
