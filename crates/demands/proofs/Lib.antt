@@ -2,6 +2,7 @@
 pub mod Demand1
 pub mod Demand2
 pub mod Demand3
+pub mod Anchors
 pub mod DecodingCases
 pub mod AnswerNumbers
 pub mod Shapes

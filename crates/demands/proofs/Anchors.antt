@@ -1,0 +1,84 @@
+-- Anchors are a set, proved. Assumes nothing.
+use Prim.Native.Nat.{ℕ, zero, suc, _<_}
+use mathlib.Core.Path.{_≡_, refl, sym, ap₂, _∙_}
+use mathlib.Core.Bool.{Bool, true, false, _||_}
+use mathlib.Core.List.{List, [], _∷_, _++_}
+use native.Mathlib.Omega.{arith}
+use lib.Dec.{eqb}
+use Rattle.lists.specs.Cases.{pick}
+use Rattle.lists.specs.Counts.{isIn}
+use Rattle.lists.specs.Pieces.{among}
+use Rattle.answers.specs.declared.settings.Options.{Options}
+use Rattle.sector.specs.declared.fits.Fit.{Fit}
+use Rattle.page.specs.Trailer.{rowCount}
+use Rattle.summary.specs.Page.{fitsOf, bytesOf}
+use Rattle.votes.specs.Votes.{countsOf, ballots, isCandidate, candidateOf, candidatesBelow, assessmentOf}
+use Rattle.choice.specs.Rules.{choiceOf}
+use Rattle.verdict.specs.Verdict.{verdictBy, verdictOf}
+use Rattle.decode.specs.Decode.{decodingOf}
+use Rattle.demands.specs.Anchors.{SameMembers, AnchorsAreASet}
+
+-- a value is in two lists one after the other if it is in one of them
+in-append : (v : ℕ) (a b : List ℕ) → isIn v (a ++ b) ≡ (isIn v a || isIn v b)
+unfolding isIn
+in-append v [] b = refl
+in-append v (x ∷ a) b = go (eqb v x) (in-append v a b)
+  where
+    go : (c : Bool) → isIn v (a ++ b) ≡ (isIn v a || isIn v b) → pick c true (isIn v (a ++ b)) ≡ (pick c true (isIn v a) || isIn v b)
+    go true h = refl
+    go false h = h
+
+or-order : (a b : Bool) → (a || b) ≡ (b || a)
+or-order true true = refl
+or-order true false = refl
+or-order false true = refl
+or-order false false = refl
+
+or-same : (a : Bool) → (a || a) ≡ a
+or-same true = refl
+or-same false = refl
+
+-- `among` asks its function below the bound alone
+among-ext : {A : Type 0} (p : ℕ → Bool) (f g : ℕ → A) (n : ℕ) → ((k : ℕ) → k < n → f k ≡ g k) → among p f n ≡ among p g n
+unfolding among
+among-ext p f g zero h = refl
+among-ext p f g (suc n) h =
+    ap₂ (λ l x. l ++ pick (p n) (x ∷ []) []) (among-ext p f g n (λ k l. h k (omega arith))) (h n (omega arith))
+
+module _ (lim : ℕ) (shifted : List ℕ) (n t : ℕ) (a b : List ℕ) (s : SameMembers a b) where
+  same-candidate : (v : ℕ) → v < 256 → candidateOf lim shifted a n t v ≡ candidateOf lim shifted b n t v
+  unfolding candidateOf
+  same-candidate v h = rw (s .both v h)
+
+  same-candidates : candidatesBelow lim shifted a n t 256 ≡ candidatesBelow lim shifted b n t 256
+  unfolding candidatesBelow
+  same-candidates =
+      among-ext (isCandidate (countsOf shifted) (countsOf (ballots shifted))) (candidateOf lim shifted a n t) (candidateOf lim shifted b n t) 256 same-candidate
+
+  same-assessment : assessmentOf lim shifted a n t ≡ assessmentOf lim shifted b n t
+  unfolding assessmentOf
+  same-assessment = rw same-candidates
+
+same-choice :
+    (lim number : ℕ) (shifted a b : List ℕ) (n : ℕ) (o : Options)
+    → SameMembers a b
+    → choiceOf lim number shifted a n o ≡ choiceOf lim number shifted b n o
+unfolding choiceOf
+same-choice lim number shifted a b n o s = rw (same-assessment lim shifted n (o .«min_trailer_count») a b s)
+
+same-decoding :
+    (lim number : ℕ) (stored : List ℕ) (fits : List Fit) (shifted a b : List ℕ) (o : Options) (m : ℕ)
+    → SameMembers a b
+    → decodingOf lim number stored fits shifted a o m ≡ decodingOf lim number stored fits shifted b o m
+unfolding decodingOf verdictOf verdictBy
+same-decoding lim number stored fits shifted a b o m s = rw (same-choice lim number shifted a b (rowCount stored) o s)
+
+pub anchors-are-a-set : AnchorsAreASet
+anchors-are-a-set =
+    record {
+      choice = same-choice;
+      decoding = same-decoding;
+      read = λ lim number stored a b o m s. same-decoding lim number stored (fitsOf number stored) (bytesOf number stored) a b o m s;
+      order = λ a b. record { both = λ v h. in-append v a b ∙ or-order (isIn v a) (isIn v b) ∙ sym (in-append v b a) };
+      repeats = λ a. record { both = λ v h. in-append v a a ∙ or-same (isIn v a) };
+    }
