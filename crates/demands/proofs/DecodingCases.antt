@@ -1,12 +1,12 @@
 -- What holds of each outcome of a decoding holds of the decoding: its checks, its verdict, and the doubt of its sectors. Assumes nothing.
 use Prim.Native.Nat.{ℕ}
-use mathlib.Core.Path.{_≡_, refl}
+use mathlib.Core.Path.{_≡_, refl, sym, subst}
 use mathlib.Core.Bool.{Bool, true, false}
 use mathlib.Core.List.{List}
 use lib.Dec.{eqb, ltb}
 use lib.ListN.{length}
 use Rattle.lists.specs.Cases.{pick}
-use Rattle.lists.proofs.Picks.{pick-case, never-both}
+use Rattle.lists.proofs.Picks.{pick-case, pick-true, pick-false, never-both}
 use Rattle.answers.specs.Answers.{isAccepted}
 use Rattle.answers.specs.Warns.{noWarnings}
 use Rattle.answers.specs.declared.kinds.Answer.{Answer}
@@ -14,17 +14,17 @@ use Rattle.answers.specs.declared.kinds.Answer.the-variants as answer
 use Rattle.answers.specs.declared.notices.Warnings.{Warnings}
 use Rattle.answers.specs.declared.settings.Options.{Options}
 use Rattle.sector.specs.declared.fits.Fit.{Fit}
-use Rattle.page.specs.Trailer.{rowCount}
-use Rattle.page.specs.Integrity.{isUnallocated, integrityOf}
+use Rattle.page.specs.Integrity.{isUnallocated}
 use Rattle.choice.specs.declared.Choice.{Choice}
 use Rattle.answers.specs.Settings.{keystream}
 use Rattle.choice.specs.Rules.{choiceOf}
 use Rattle.verdict.specs.declared.Decoding.{Decoding}
 use Rattle.verdict.specs.Sectors.{entry, refitOf, firstWeak, sectorWarnings}
-use Rattle.verdict.specs.Verdict.{refusedWith, refusal, unallocatedOf, warningNoted, sectorsDecide, settledOf, integrityRefuses, integrityWarning, verdictBy, verdictOf}
+use Rattle.verdict.specs.Verdict.{refusedWith, refusal, unallocatedOf, warningNoted, sectorsDecide, settledOf, integrityRefuses, integrityWarning, verdictBy}
 use Rattle.verdict.proofs.DecisionCases.{refuses-refused}
 use Rattle.decode.specs.Decode.{lengthsAnswer, lengthsChecked}
 use Rattle.decode.proofs.EntryCases.{lengths-right}
+use Rattle.demands.specs.Told.{firstWrong}
 
 module _ (P : Decoding → Type 0) where
   -- a choice that refuses, a sector in doubt, or the choice and the fits with some warnings
@@ -32,7 +32,7 @@ module _ (P : Decoding → Type 0) where
     pub settled-case :
         (lenient : Bool) (ws : Warnings)
         → (isAccepted (c .answer) ≡ false → P (refusedWith c))
-        → ((s peak runner : ℕ) → P (refusal (answer.LowConfidenceKeystream number s peak runner)))
+        → P (refusal (answer.LowConfidenceKeystream number (firstWeak fits) (entry fits (firstWeak fits) .peak) (entry fits (firstWeak fits) .«runner_up»)))
         → (isAccepted (c .answer) ≡ true → (all : Warnings) → P (record { choice = c; fits = fits; warnings = all }))
         → P (settledOf number lenient fits c ws)
     unfolding settledOf sectorsDecide
@@ -45,46 +45,50 @@ module _ (P : Decoding → Type 0) where
         pick-case P (isAccepted (c .answer)) (pick lenient warned (pick (ltb s 8) weak plain)) (refusedWith c)
         (λ e.
         pick-case P lenient warned (pick (ltb s 8) weak plain) (λ l. taken e (sectorWarnings number fits all 8))
-        (λ l. pick-case P (ltb s 8) weak plain (λ w. doubt s (entry fits s .peak) (entry fits s .«runner_up»)) (λ w. taken e all)))
+        (λ l. pick-case P (ltb s 8) weak plain (λ w. doubt) (λ w. taken e all)))
         refused
 
   -- a page whose integrity does not hold, or the choice as it is settled, with some warnings
   pub verdict-case :
-      (lim number : ℕ) (stored : List ℕ) (fits : List Fit) (shifted anchors : List ℕ) (o : Options)
-      → (isAccepted (integrityOf number stored) ≡ false → P (refusal (integrityOf number stored)))
-      → ((ws : Warnings) → P (settledOf number (keystream o) (refitOf fits shifted) (choiceOf lim number shifted anchors (rowCount stored) o) ws))
-      → P (verdictOf lim number stored fits shifted anchors o)
-  unfolding verdictOf verdictBy
-  verdict-case lim number stored fits shifted anchors o refused settled =
-      let x : Answer = integrityOf number stored in
+      (lim number : ℕ) (x : Answer) (n : ℕ) (fits : List Fit) (shifted anchors : List ℕ) (o : Options)
+      → (integrityRefuses x o ≡ true → isAccepted x ≡ false → P (refusal x))
+      → (integrityRefuses x o ≡ false
+      → (ws : Warnings)
+      → P (settledOf number (keystream o) (refitOf fits shifted) (choiceOf lim number shifted anchors n o) ws))
+      → P (verdictBy lim number x n fits shifted anchors o)
+  unfolding verdictBy
+  verdict-case lim number x n fits shifted anchors o refused settled =
       let warned : Warnings = warningNoted number (integrityWarning x) noWarnings in
-      let c : Choice = choiceOf lim number shifted anchors (rowCount stored) o in
+      let c : Choice = choiceOf lim number shifted anchors n o in
       pick-case P (integrityRefuses x o) (refusal x) (settledOf number (keystream o) (refitOf fits shifted) c warned)
-      (λ e. refused (refuses-refused x o e)) (λ e. settled warned)
+      (λ e. refused e (refuses-refused x o e)) (λ e. settled e warned)
 
-  -- a wrong length is the page's, or a buffer's
+  -- a wrong length is the page's, or the first of the buffers' that is wrong
   wrong-length :
       (n m k : ℕ)
       → P (refusal (answer.WrongPageLength n))
-      → ((b : ℕ) → P (refusal (answer.WrongBufferLength b)))
+      → P (refusal (answer.WrongBufferLength (firstWrong m k)))
       → isAccepted (lengthsAnswer n m k) ≡ false
       → P (refusal (lengthsAnswer n m k))
   unfolding lengthsAnswer
   wrong-length n m k page buffer =
       let Q : Answer → Type 0 = λ x. isAccepted x ≡ false → P (refusal x) in
+      let wrong : ℕ → Type 0 = λ j. P (refusal (answer.WrongBufferLength j)) in
       let shifted : Answer = pick (eqb k 4080) answer.Accepted (answer.WrongBufferLength k) in
       pick-case Q (eqb n 4096) (pick (eqb m 4096) shifted (answer.WrongBufferLength m)) (answer.WrongPageLength n)
       (λ a.
       pick-case Q (eqb m 4096) shifted (answer.WrongBufferLength m)
-      (λ b. pick-case Q (eqb k 4080) answer.Accepted (answer.WrongBufferLength k) (λ g h. absurd (never-both h refl)) (λ g h. buffer k))
-      (λ b h. buffer m))
+      (λ b.
+      pick-case Q (eqb k 4080) answer.Accepted (answer.WrongBufferLength k) (λ g h. absurd (never-both h refl))
+      (λ g h. subst wrong (sym (pick-true k m b)) buffer))
+      (λ b h. subst wrong (sym (pick-false k m b)) buffer))
       (λ a h. page)
 
   -- a wrong length, a page of zeros, or what the verdict is
   pub checked-case :
       (stored shifted : List ℕ) (m : ℕ) (d : Decoding)
       → P (refusal (answer.WrongPageLength (length stored)))
-      → ((n : ℕ) → P (refusal (answer.WrongBufferLength n)))
+      → P (refusal (answer.WrongBufferLength (firstWrong m (length shifted))))
       → (length stored ≡ 4096 → m ≡ 4096 → length shifted ≡ 4080 → isUnallocated stored ≡ true → P unallocatedOf)
       → (length stored ≡ 4096 → m ≡ 4096 → length shifted ≡ 4080 → P d)
       → P (lengthsChecked stored shifted m d)

@@ -1,148 +1,372 @@
 -- DEMAND 1, proved. Assumes nothing.
 use Prim.Native.Nat.{ℕ, _-_, _*_}
-use mathlib.Core.Path.{_≡_, refl}
-use mathlib.Core.Bool.{false, not}
+use mathlib.Core.Path.{_≡_, refl, ap, _∙_}
+use mathlib.Core.Bool.{Bool, true, false, not}
 use mathlib.Core.List.{List, [], _∷_}
+use native.Mathlib.Nat.{zero-add}
+use borrow.Author.Tests.{eq-eqb}
+use denote.Ref.{RefT, now}
 use lib.Dec.{eqb, ltb}
 use lib.ListN.{length}
 use Rattle.lists.specs.Cases.{pick}
-use Rattle.lists.specs.Counts.{isIn}
-use Rattle.lists.proofs.Picks.{pick-case}
-use Rattle.answers.specs.Answers.{numberOf, isAccepted}
+use Rattle.lists.specs.Pieces.{each, keep}
+use Rattle.lists.proofs.Picks.{pick-case, never-both}
+use Rattle.answers.specs.Answers.{isAccepted}
+use Rattle.answers.specs.Settings.{keystream}
 use Rattle.answers.specs.Warns.{noWarnings}
 use Rattle.answers.specs.declared.kinds.Answer.{Answer}
 use Rattle.answers.specs.declared.kinds.Answer.the-variants as answer
+use Rattle.answers.specs.declared.notices.Warnings.{Warnings}
 use Rattle.answers.specs.declared.settings.Options.{Options}
 use Rattle.sector.specs.declared.fits.Fit.{Fit}
-use Rattle.page.specs.Trailer.{isPage, rowCount, storedCrc, trailerAnswer}
+use Rattle.page.specs.Trailer.{isPage, rowCount, storedCrc, blankTrailer, trailerAnswer}
 use Rattle.page.specs.Integrity.{isUnallocated, computedCrc, trailerHolds, writtenIntegrity, integrityOf}
-use Rattle.page.specs.Superblock.{magicOf, superblockAnswer, checkedSuperblock}
+use Rattle.page.specs.Superblock.{magicOf, blankSuperblock, superblockAnswer, checkedSuperblock}
 use Rattle.page.specs.declared.trailers.TrailerAnswer.{TrailerAnswer}
 use Rattle.page.specs.declared.superblocks.SuperblockAnswer.{SuperblockAnswer}
-use Rattle.summary.specs.Page.{sectorEnd, pageScanOf}
-use Rattle.summary.specs.Replace.{replaced}
-use Rattle.slotted.proofs.Meaning.{parse-number}
-use Rattle.rows.proofs.Meaning.{row-number}
+use Rattle.summary.specs.Page.{sectorEnd, blankFits, checked, pageScanOf, scanned}
+use Rattle.summary.specs.Replace.{replaced, storedAfter, shiftedAfter}
+use Rattle.slotted.specs.Decisions.{answerOf, decisionOf}
+use Rattle.slotted.specs.Parses.{parsedOf}
+use Rattle.slotted.specs.declared.verdicts.Decided.{Decided}
+use Rattle.rows.specs.Rows.{ascending, rowsAt, rowIn, IsPart}
+use Rattle.rows.specs.RowAnswers.{rowsIn, rowsOf, rowOf, spanAnswer, rowAnswerOf, rowsCountedOf, startsBy, startsOf}
+use Rattle.rows.specs.declared.spans.Span.{Span}
+use Rattle.rows.specs.declared.spans.Span.the-variants.{At, NoRow}
+use Rattle.rows.proofs.RowAnswers.{no-rows}
 use Rattle.choice.specs.declared.Choice.{Choice}
-use Rattle.answers.specs.Settings.{keystream}
-use Rattle.choice.specs.Rules.{choiceOf}
+use Rattle.choice.specs.Rules.{refusedOf, choiceOf}
 use Rattle.choice.specs.Supplied.{suppliedOf}
 use Rattle.verdict.specs.declared.Decoding.{Decoding}
 use Rattle.verdict.specs.Sectors.{refitOf}
-use Rattle.verdict.specs.Verdict.{settledOf, verdictOf}
+use Rattle.verdict.specs.Verdict.{refusal, integrityRefuses, settledOf, verdictBy, verdictOf, suppliedVerdict}
 use Rattle.decode.specs.Decode.{decodingOf, suppliedDecodingOf, writtenOf}
-use Rattle.demands.specs.Demand1.{OneOf, Silent, Answered}
-use Rattle.demands.proofs.AnswerNumbers.{Gives, allIn, in-wider, ruled, backed, choice-numbers, supplied-numbers, gives-settled, gives-verdict, gives-checked}
-use Rattle.demands.proofs.Shapes.{Whole, decoding-whole, supplied-whole}
+use Rattle.demands.specs.Told.{Line, valuesAt, OneOf, lengthLines, integrityLines, magicLines, scanLines, replacementLines, parseLines, rowLines}
+use Rattle.demands.specs.Told.{choiceLines, supportLines, verdictLines, suppliedVerdictLines, decodingLines, suppliedLines}
+use Rattle.demands.specs.Demand1.{Answered, NoDirectory, NothingTaken, Silent, Refused}
+use Rattle.demands.proofs.DecodingCases.{verdict-case}
+use Rattle.demands.proofs.AnswerLines.{Has, Chooses, Gives, choice-gives, supplied-gives, gives-refusal, gives-settled, gives-checked}
+use Rattle.demands.proofs.ParseLines.{HasParse, Settles, decision-settles, no-directory}
+use Rattle.demands.proofs.Shapes.{shaped-settled, shaped-verdict, decoding-whole, supplied-whole}
 
 -- ---- pages
 
-trailer-one : (s : List ℕ) → OneOf (0 ∷ 1 ∷ []) (trailerAnswer s .answer)
-unfolding trailerAnswer isIn
-trailer-one s =
-    pick-case (λ (r : TrailerAnswer). OneOf (0 ∷ 1 ∷ []) (r .answer)) (not (isPage s)) _ _ (λ e. record { is = refl }) (λ e. record { is = refl })
+pub record TrailerHolds (stored : List ℕ) (r : TrailerAnswer) : Type 0 where
+  pub line : OneOf (lengthLines stored) (r .answer)
+  pub quiet : isAccepted (r .answer) ≡ false → r .trailer ≡ blankTrailer
 
-integrity-one : (number : ℕ) (s : List ℕ) → OneOf (0 ∷ 1 ∷ 3 ∷ 4 ∷ []) (integrityOf number s)
-unfolding integrityOf writtenIntegrity isIn
-integrity-one number s =
-    let bad : Answer = pick (not (trailerHolds number s)) (answer.BadTrailer number) answer.Accepted in
-    let crc : Answer = pick (not (eqb (storedCrc s) (computedCrc s))) (answer.BadCrc number (storedCrc s) (computedCrc s)) bad in
-    let written : Answer = pick (not (isPage s)) (answer.WrongPageLength (length s)) crc in
-    pick-case (OneOf (0 ∷ 1 ∷ 3 ∷ 4 ∷ [])) (isUnallocated s) answer.Accepted written (λ e. record { is = refl })
+trailer-holds : (stored : List ℕ) → TrailerHolds stored (trailerAnswer stored)
+unfolding trailerAnswer valuesAt
+trailer-holds stored =
+    pick-case (TrailerHolds stored) (not (isPage stored)) _ _ (λ e. record { line = record { is = refl }; quiet = λ q. refl })
+    (λ e. record { line = record { is = refl }; quiet = λ q. absurd (never-both q refl) })
+
+module _ (lines : List Line) (number : ℕ) (stored : List ℕ) (zero : Has lines 0 []) (one : Has lines 1 (length stored ∷ []))
+    (three : Has lines 3 (number ∷ storedCrc stored ∷ computedCrc stored ∷ []))
+    (four : Has lines 4 (number ∷ []))
+  where
+    written-one : OneOf lines (writtenIntegrity number stored)
+    unfolding writtenIntegrity
+    written-one =
+        let bad : Answer = pick (not (trailerHolds number stored)) (answer.BadTrailer number) answer.Accepted in
+        let crc : Answer = pick (not (eqb (storedCrc stored) (computedCrc stored))) (answer.BadCrc number (storedCrc stored) (computedCrc stored)) bad in
+        pick-case (OneOf lines) (not (isPage stored)) (answer.WrongPageLength (length stored)) crc (λ f. record { is = one })
+        (λ f.
+        pick-case (OneOf lines) (not (eqb (storedCrc stored) (computedCrc stored))) (answer.BadCrc number (storedCrc stored) (computedCrc stored)) bad
+        (λ g. record { is = three })
+        (λ g.
+        pick-case (OneOf lines) (not (trailerHolds number stored)) (answer.BadTrailer number) answer.Accepted (λ h. record { is = four })
+        (λ h. record { is = zero })))
+
+    integrity-one : OneOf lines (integrityOf number stored)
+    unfolding integrityOf
+    integrity-one =
+        pick-case (OneOf lines) (isUnallocated stored) answer.Accepted (writtenIntegrity number stored) (λ e. record { is = zero }) (λ e. written-one)
+
+pub record SuperblockHolds (lines : List Line) (r : SuperblockAnswer) : Type 0 where
+  pub line : OneOf lines (r .answer)
+  pub quiet : isAccepted (r .answer) ≡ false → r .superblock ≡ blankSuperblock
+
+superblock-holds : (stored : List ℕ) → SuperblockHolds (lengthLines stored) (superblockAnswer stored)
+unfolding superblockAnswer valuesAt
+superblock-holds stored =
+    pick-case (SuperblockHolds (lengthLines stored)) (not (isPage stored)) _ _ (λ e. record { line = record { is = refl }; quiet = λ q. refl })
+    (λ e. record { line = record { is = refl }; quiet = λ q. absurd (never-both q refl) })
+
+checked-holds : (stored : List ℕ) → SuperblockHolds (magicLines stored) (checkedSuperblock stored)
+unfolding checkedSuperblock valuesAt
+checked-holds stored =
+    pick-case (SuperblockHolds (magicLines stored)) (not (isPage stored)) _ _ (λ e. record { line = record { is = refl }; quiet = λ q. refl })
     (λ e.
-    pick-case (OneOf (0 ∷ 1 ∷ 3 ∷ 4 ∷ [])) (not (isPage s)) (answer.WrongPageLength (length s)) crc (λ f. record { is = refl })
-    (λ f.
-    pick-case (OneOf (0 ∷ 1 ∷ 3 ∷ 4 ∷ [])) (not (eqb (storedCrc s) (computedCrc s))) (answer.BadCrc number (storedCrc s) (computedCrc s)) bad (λ g. record { is = refl })
-    (λ g. pick-case (OneOf (0 ∷ 1 ∷ 3 ∷ 4 ∷ [])) (not (trailerHolds number s)) (answer.BadTrailer number) answer.Accepted (λ h. record { is = refl }) (λ h. record { is = refl }))))
-
-superblock-one : (s : List ℕ) → OneOf (0 ∷ 1 ∷ []) (superblockAnswer s .answer)
-unfolding superblockAnswer isIn
-superblock-one s =
-    pick-case (λ (r : SuperblockAnswer). OneOf (0 ∷ 1 ∷ []) (r .answer)) (not (isPage s)) _ _ (λ e. record { is = refl }) (λ e. record { is = refl })
-
-checked-one : (s : List ℕ) → OneOf (0 ∷ 1 ∷ 13 ∷ []) (checkedSuperblock s .answer)
-unfolding checkedSuperblock isIn
-checked-one s =
-    pick-case (λ (r : SuperblockAnswer). OneOf (0 ∷ 1 ∷ 13 ∷ []) (r .answer)) (not (isPage s)) _ _ (λ e. record { is = refl })
-    (λ e.
-    pick-case (λ (r : SuperblockAnswer). OneOf (0 ∷ 1 ∷ 13 ∷ []) (r .answer)) (not (eqb (magicOf s) 0xDA7ABA5E)) _ _ (λ f. record { is = refl })
-    (λ f. record { is = refl }))
+    pick-case (SuperblockHolds (magicLines stored)) (not (eqb (magicOf stored) 0xDA7ABA5E)) _ _ (λ f. record { line = record { is = refl }; quiet = λ q. refl })
+    (λ f. record { line = record { is = refl }; quiet = λ q. absurd (never-both q refl) }))
 
 -- ---- summaries
 
-scan-one : (number : ℕ) (s : List ℕ) (m : ℕ) → OneOf (0 ∷ 1 ∷ 2 ∷ []) (pageScanOf number s m .answer)
-unfolding pageScanOf isIn
-scan-one number s m =
-    pick-case (OneOf (0 ∷ 1 ∷ 2 ∷ [])) (eqb (length s) 4096) _ _
-    (λ e. pick-case (OneOf (0 ∷ 1 ∷ 2 ∷ [])) (eqb m 4080) _ _ (λ f. record { is = refl }) (λ f. record { is = refl })) (λ e. record { is = refl })
+checked-one : (lines : List Line) (n m : ℕ) (x : Answer) → Has lines 1 (n ∷ []) → Has lines 2 (m ∷ []) → OneOf lines x → OneOf lines (checked n m x)
+checked-one lines n m x one two h =
+    pick-case (OneOf lines) (eqb n 4096) (pick (eqb m 4080) x (answer.WrongBufferLength m)) (answer.WrongPageLength n)
+    (λ e. pick-case (OneOf lines) (eqb m 4080) x (answer.WrongBufferLength m) (λ f. h) (λ f. record { is = two })) (λ e. record { is = one })
 
-replaced-one : (number s : ℕ) (new : List ℕ) (n m : ℕ) (fits : List Fit) → OneOf (0 ∷ 1 ∷ 2 ∷ 14 ∷ []) (replaced number s new n m fits .answer)
-unfolding replaced isIn
+scan-one : (number : ℕ) (stored : List ℕ) (m : ℕ) → OneOf (scanLines (length stored) m) (pageScanOf number stored m .answer)
+unfolding pageScanOf valuesAt
+scan-one number stored m = checked-one (scanLines (length stored) m) (length stored) m answer.Accepted refl refl (record { is = refl })
+
+replaced-one : (number s : ℕ) (new : List ℕ) (n m : ℕ) (fits : List Fit) → OneOf (replacementLines s n m) (replaced number s new n m fits .answer)
+unfolding replaced valuesAt
 replaced-one number s new n m fits =
-    pick-case (OneOf (0 ∷ 1 ∷ 2 ∷ 14 ∷ [])) (eqb n 4096) _ _
-    (λ e.
-    pick-case (OneOf (0 ∷ 1 ∷ 2 ∷ 14 ∷ [])) (eqb m 4080) _ _
-    (λ f.
-    pick-case (OneOf (0 ∷ 1 ∷ 2 ∷ 14 ∷ [])) (ltb s 8) _ _
+    let sized : Answer = pick (eqb (length new) (sectorEnd s - s * 512)) answer.Accepted (answer.BadReplacement s) in
+    checked-one (replacementLines s n m) n m (pick (ltb s 8) sized (answer.BadReplacement s)) refl refl
+    (pick-case (OneOf (replacementLines s n m)) (ltb s 8) sized (answer.BadReplacement s)
     (λ g.
-    pick-case (OneOf (0 ∷ 1 ∷ 2 ∷ 14 ∷ [])) (eqb (length new) (sectorEnd s - s * 512)) answer.Accepted (answer.BadReplacement s) (λ h. record { is = refl })
-    (λ h. record { is = refl })) (λ g. record { is = refl }))
-    (λ f. record { is = refl }))
-    (λ e. record { is = refl })
+    pick-case (OneOf (replacementLines s n m)) (eqb (length new) (sectorEnd s - s * 512)) answer.Accepted (answer.BadReplacement s)
+    (λ h. record { is = refl }) (λ h. record { is = refl }))
+    (λ g. record { is = refl }))
 
--- ---- decodings
+scan-quiet :
+    (number : ℕ) (stored buffer : List ℕ)
+    → isAccepted (pageScanOf number stored (length buffer) .answer) ≡ false
+    → (pageScanOf number stored (length buffer) .fits ≡ blankFits) × (scanned number stored buffer ≡ buffer)
+unfolding pageScanOf scanned
+scan-quiet number stored buffer e = (rw e, rw e)
 
-abbrev decoded : List ℕ
-decoded = 0 ∷ 1 ∷ 2 ∷ 3 ∷ 4 ∷ 5 ∷ 6 ∷ 7 ∷ 15 ∷ []
+replaced-quiet :
+    (number s : ℕ) (new stored shifted : List ℕ) (fits : List Fit)
+    → isAccepted (replaced number s new (length stored) (length shifted) fits .answer) ≡ false
+    → (replaced number s new (length stored) (length shifted) fits .fits ≡ fits)
+    × (storedAfter s new stored (length shifted) ≡ stored)
+    × (shiftedAfter number s new (length stored) shifted ≡ shifted)
+unfolding replaced storedAfter shiftedAfter
+replaced-quiet number s new stored shifted fits e = (rw e, rw e, rw e)
 
-abbrev given : List ℕ
-given = 0 ∷ 1 ∷ 2 ∷ 6 ∷ 7 ∷ []
+-- ---- slots and rows
+
+module _ (lim number : ℕ) (plain : List ℕ) where
+  parse-has : HasParse (parseLines lim number plain) lim number plain
+  unfolding valuesAt
+  parse-has = record { zero = refl; one = refl; eight = refl; nine = refl; ten = refl; eleven = refl; twelve = refl }
+
+  row-has : (r : ℕ) → HasParse (rowLines lim number plain r) lim number plain
+  unfolding valuesAt
+  row-has r = record { zero = refl; one = refl; eight = refl; nine = refl; ten = refl; eleven = refl; twelve = refl }
+
+  module _ (lenient : Bool) where
+    abbrev decided : Decided
+    decided = decisionOf lim plain lenient
+
+    abbrev found : Answer
+    found = answerOf number (decided .verdict)
+
+    parse-holds : Settles (parseLines lim number plain) number decided
+    parse-holds = decision-settles (parseLines lim number plain) lim number plain parse-has lenient
+
+    parse-one : OneOf (parseLines lim number plain) (parsedOf lim number plain lenient .answer)
+    unfolding parsedOf
+    parse-one = record { is = parse-holds .is }
+
+    parse-quiet : isAccepted (parsedOf lim number plain lenient .answer) ≡ false → NoDirectory (parsedOf lim number plain lenient)
+    unfolding parsedOf
+    parse-quiet e = no-directory number plain decided (parse-holds .quiet e)
+
+    -- where the parse refuses there are no rows
+    rows-none : isAccepted found ≡ false → rowsOf lim plain lenient ≡ []
+    unfolding rowsOf rowsAt keep each ascending
+    rows-none e = ap (λ (d : Decided). rowsIn plain (d .listed)) (parse-holds .quiet e)
+
+    span-one : (r : ℕ) (s : Span) → OneOf (rowLines lim number plain r) (spanAnswer r s)
+    unfolding valuesAt
+    span-one r (At o e) = record { is = refl }
+    span-one r NoRow = record { is = refl }
+
+    row-one : (r : ℕ) → OneOf (rowLines lim number plain r) (rowAnswerOf lim number plain lenient r)
+    unfolding rowAnswerOf
+    row-one r =
+        pick-case (OneOf (rowLines lim number plain r)) (isAccepted found) (spanAnswer r (rowIn r (rowsIn plain (decided .listed)))) found
+        (λ e. span-one r (rowIn r (rowsIn plain (decided .listed))))
+        (λ e. record { is = decision-settles (rowLines lim number plain r) lim number plain (row-has r) lenient .is })
+
+    span-quiet : (r : ℕ) (s : Span) → isAccepted (spanAnswer r s) ≡ false → s ≡ NoRow
+    span-quiet r (At o e) q = absurd (never-both q refl)
+    span-quiet r NoRow q = refl
+
+    row-quiet : (r : ℕ) → isAccepted (rowAnswerOf lim number plain lenient r) ≡ false → rowOf lim plain lenient r ≡ NoRow
+    unfolding rowAnswerOf rowsOf
+    row-quiet r = go (isAccepted found) refl
+      where
+        go :
+            (b : Bool)
+            → isAccepted found ≡ b
+            → isAccepted (pick b (spanAnswer r (rowOf lim plain lenient r)) found) ≡ false
+            → rowOf lim plain lenient r ≡ NoRow
+        go true e q = span-quiet r (rowOf lim plain lenient r) q
+        go false e q = ap (rowIn r) (rows-none e) ∙ no-rows r
+
+    counted-quiet : isAccepted (rowsCountedOf lim number plain lenient .answer) ≡ false → rowsCountedOf lim number plain lenient .rows ≡ 0
+    unfolding parsedOf
+    counted-quiet e = ap length (rows-none e)
+
+    starts-one : OneOf (parseLines lim number plain) (startsOf lim number plain lenient .answer)
+    unfolding startsOf
+    starts-one = record { is = parse-holds .is }
+
+    starts-quiet :
+        isAccepted (startsOf lim number plain lenient .answer) ≡ false
+        → startsOf lim number plain lenient ≡ startsBy (startsOf lim number plain lenient .answer) []
+    unfolding startsOf
+    starts-quiet e = ap (startsBy found) (rows-none e)
+
+part-empty : (s p : RefT (List ℕ)) → IsPart s p NoRow → (p .ptr ≡ s .ptr) × (now p ≡ [])
+part-empty s p h = (h .place ∙ ap (λ (k : ℕ). (s .ptr .0, k)) (zero-add (s .ptr .1)), h .bytes)
+
+-- ---- choices and decodings
+
+refusal-taken : (x : Answer) → NothingTaken (refusal x .choice)
+unfolding refusedOf
+refusal-taken x = record { blank = refl; group = λ n. refl }
+
+silent : (d : Decoding) → NothingTaken (d .choice) → (d .fits ≡ blankFits) × (d .warnings ≡ noWarnings) → isAccepted (d .choice .answer) ≡ false → Silent d
+unfolding writtenOf
+silent d c w e = record { choice = c; fits = w .0; warnings = w .1; out = λ stored shifted out. rw e }
+
+-- shifted bytes of the right length are never answered with 2
+no-two : (lines : List Line) (k : ℕ) → k ≡ 4080 → eqb k 4080 ≡ false → Has lines 2 (k ∷ [])
+no-two lines k e f = absurd (never-both f (eq-eqb k 4080 e))
+
+choice-holds :
+    (lim number : ℕ) (shifted anchors : List ℕ) (n : ℕ) (o : Options)
+    → Chooses (choiceLines number shifted) (choiceOf lim number shifted anchors n o)
+unfolding valuesAt
+choice-holds lim number shifted anchors n o = choice-gives (choiceLines number shifted) lim number shifted anchors n o refl (λ e. refl) refl refl refl
+
+support-holds :
+    (lim number bv : ℕ) (shifted : List ℕ) (n : ℕ) (o : Options)
+    → Chooses (supportLines number bv shifted) (suppliedOf lim number bv shifted n o)
+unfolding valuesAt
+support-holds lim number bv shifted n o = supplied-gives (supportLines number bv shifted) number bv refl refl lim shifted n o (λ e. refl)
+
+module _ (lim number : ℕ) (x : Answer) (n : ℕ) (fits : List Fit) (shifted anchors : List ℕ) (o : Options) where
+  abbrev ruled : Choice
+  ruled = choiceOf lim number shifted anchors n o
+
+  abbrev judged : Decoding
+  judged = verdictBy lim number x n fits shifted anchors o
+
+  settled-gives : (ws : Warnings) → Gives (verdictLines number fits shifted) (settledOf number (keystream o) (refitOf fits shifted) ruled ws)
+  unfolding valuesAt
+  settled-gives ws =
+      gives-settled (verdictLines number fits shifted) number (keystream o) (refitOf fits shifted) ruled ws
+      (choice-gives (verdictLines number fits shifted) lim number shifted anchors n o refl (λ e. refl) refl refl refl) refl
+
+  verdict-one : integrityRefuses x o ≡ false → OneOf (verdictLines number fits shifted) (judged .choice .answer)
+  verdict-one e =
+      verdict-case (λ (d : Decoding). OneOf (verdictLines number fits shifted) (d .choice .answer)) lim number x n fits shifted anchors o
+      (λ r q. absurd (never-both e r)) (λ r ws. record { is = settled-gives ws .is })
+
+  verdict-passed : integrityRefuses x o ≡ true → judged ≡ refusal x
+  unfolding verdictBy
+  verdict-passed e = rw e
+
+  verdict-quiet : isAccepted (judged .choice .answer) ≡ false → Silent judged
+  verdict-quiet e =
+      silent judged
+      (verdict-case (λ (d : Decoding). isAccepted (d .choice .answer) ≡ false → NothingTaken (d .choice)) lim number x n fits shifted anchors o
+      (λ r q f. refusal-taken x) (λ r ws. settled-gives ws .quiet) e)
+      (shaped-verdict lim number x n fits shifted anchors o .refused e) e
+
+module _ (lim number bv n : ℕ) (fits : List Fit) (shifted : List ℕ) (o : Options) where
+  supplied-verdict-holds : Gives (suppliedVerdictLines number bv fits shifted) (suppliedVerdict lim number bv n fits shifted o)
+  unfolding valuesAt
+  supplied-verdict-holds =
+      let lines : List Line = suppliedVerdictLines number bv fits shifted in
+      gives-settled lines number (keystream o) (refitOf fits shifted) (suppliedOf lim number bv shifted n o) noWarnings
+      (supplied-gives lines number bv refl refl lim shifted n o (λ e. refl)) refl
+
+  supplied-verdict-quiet :
+      isAccepted (suppliedVerdict lim number bv n fits shifted o .choice .answer) ≡ false
+      → Silent (suppliedVerdict lim number bv n fits shifted o)
+  supplied-verdict-quiet e =
+      silent (suppliedVerdict lim number bv n fits shifted o) (supplied-verdict-holds .quiet e)
+      (shaped-settled (suppliedOf lim number bv shifted n o) (refitOf fits shifted) number (keystream o) noWarnings .refused e) e
 
 module _ (lim number : ℕ) (stored : List ℕ) (fits : List Fit) (shifted anchors : List ℕ) (o : Options) (m : ℕ) where
-  decoding-one : Gives decoded (decodingOf lim number stored fits shifted anchors o m)
-  unfolding decodingOf isIn allIn
-  decoding-one =
-      let c : Choice = choiceOf lim number shifted anchors (rowCount stored) o in
-      gives-checked decoded stored shifted m (verdictOf lim number stored fits shifted anchors o)
-      (gives-verdict decoded lim number stored fits shifted anchors o
-      (record { is = in-wider (numberOf (c .answer)) ruled decoded refl (choice-numbers lim number shifted anchors (rowCount stored) o .is) })
-      (in-wider (numberOf (integrityOf number stored)) (0 ∷ 1 ∷ 3 ∷ 4 ∷ []) decoded refl (integrity-one number stored .is)) refl)
+  decoding-holds : Gives (decodingLines number stored fits shifted m) (decodingOf lim number stored fits shifted anchors o m)
+  unfolding decodingOf verdictOf valuesAt
+  decoding-holds =
+      let lines : List Line = decodingLines number stored fits shifted m in
+      let x : Answer = integrityOf number stored in
+      gives-checked lines stored shifted m (verdictOf lim number stored fits shifted anchors o)
+      (λ k.
+      verdict-case (Gives lines) lim number x (rowCount stored) fits shifted anchors o
+      (λ r q. gives-refusal lines x (integrity-one lines number stored refl refl refl refl .is))
+      (λ r ws.
+      gives-settled lines number (keystream o) (refitOf fits shifted) (choiceOf lim number shifted anchors (rowCount stored) o) ws
+      (choice-gives lines lim number shifted anchors (rowCount stored) o refl (no-two lines (length shifted) k) refl refl refl) refl))
       refl refl refl
+
+  decoding-quiet :
+      isAccepted (decodingOf lim number stored fits shifted anchors o m .choice .answer) ≡ false
+      → Silent (decodingOf lim number stored fits shifted anchors o m)
+  decoding-quiet e = silent _ (decoding-holds .quiet e) (decoding-whole lim number stored fits shifted o m anchors .refused e) e
 
 module _ (lim number bv : ℕ) (stored : List ℕ) (fits : List Fit) (shifted : List ℕ) (o : Options) (m : ℕ) where
-  abbrev backing : Choice
-  backing = suppliedOf lim number bv shifted (rowCount stored) o
-
-  supplied-one : Gives given (suppliedDecodingOf lim number bv stored fits shifted o m)
-  unfolding suppliedDecodingOf isIn allIn
-  supplied-one =
-      gives-checked given stored shifted m (settledOf number (keystream o) (refitOf fits shifted) backing noWarnings)
-      (gives-settled given number (keystream o) (refitOf fits shifted) backing noWarnings
-      (record { is = in-wider (numberOf (backing .answer)) backed given refl (supplied-numbers lim number bv shifted (rowCount stored) o .is) })
-      refl)
+  supplied-holds : Gives (suppliedLines number bv stored fits shifted m) (suppliedDecodingOf lim number bv stored fits shifted o m)
+  unfolding suppliedDecodingOf valuesAt
+  supplied-holds =
+      let lines : List Line = suppliedLines number bv stored fits shifted m in
+      gives-checked lines stored shifted m (suppliedVerdict lim number bv (rowCount stored) fits shifted o)
+      (λ k.
+      gives-settled lines number (keystream o) (refitOf fits shifted) (suppliedOf lim number bv shifted (rowCount stored) o) noWarnings
+      (supplied-gives lines number bv refl refl lim shifted (rowCount stored) o (no-two lines (length shifted) k)) refl)
       refl refl refl
 
-silent : (stored shifted : List ℕ) (m : ℕ) (c : Choice) (fits : List Fit) (d : Decoding) → Whole stored shifted m c fits d → isAccepted (d .choice .answer) ≡ false → Silent d
-unfolding writtenOf
-silent stored shifted m c fits d w e = record { fits = w .refused e .0; warnings = w .refused e .1; out = λ s l out. rw e }
+  supplied-quiet :
+      isAccepted (suppliedDecodingOf lim number bv stored fits shifted o m .choice .answer) ≡ false
+      → Silent (suppliedDecodingOf lim number bv stored fits shifted o m)
+  supplied-quiet e = silent _ (supplied-holds .quiet e) (supplied-whole lim number stored fits shifted o m bv .refused e) e
+
+-- ---- the demand
 
 pub every-input-answered : Answered
+unfolding valuesAt
 every-input-answered =
     record {
-      trailer = trailer-one;
-      integrity = integrity-one;
-      superblock = superblock-one;
-      checked = checked-one;
+      trailer = λ stored. trailer-holds stored .line;
+      integrity = λ number stored. integrity-one (integrityLines number stored) number stored refl refl refl refl;
+      written = λ number stored. written-one (integrityLines number stored) number stored refl refl refl refl;
+      superblock = λ stored. superblock-holds stored .line;
+      checked = λ stored. checked-holds stored .line;
       scan = scan-one;
       replacement = replaced-one;
-      parse = λ lim number plain lenient. record { is = parse-number lim number plain lenient };
-      row = λ lim number plain lenient r. record { is = row-number lim number plain lenient r };
-      choice = λ lim number shifted anchors n o. record { is = choice-numbers lim number shifted anchors n o .is };
-      support = λ lim number bv shifted n o. record { is = supplied-numbers lim number bv shifted n o .is };
-      decoding = λ lim number stored fits shifted anchors o m. record { is = decoding-one lim number stored fits shifted anchors o m .is };
-      supplied = λ lim number bv stored fits shifted o m. record { is = supplied-one lim number bv stored fits shifted o m .is };
-      refused =
-          λ lim number stored fits shifted anchors o m e.
-          silent stored shifted m _ _ _ (decoding-whole lim number stored fits shifted o m anchors) e;
-      supplied-refused = λ lim number bv stored fits shifted o m e. silent stored shifted m _ _ _ (supplied-whole lim number stored fits shifted o m bv) e;
+      parse = parse-one;
+      row = row-one;
+      counted = parse-one;
+      starts = starts-one;
+      choice = λ lim number shifted anchors n o. record { is = choice-holds lim number shifted anchors n o .is };
+      support = λ lim number bv shifted n o. record { is = support-holds lim number bv shifted n o .is };
+      verdict = verdict-one;
+      passed-on = verdict-passed;
+      supplied-verdict = λ lim number bv n fits shifted o. record { is = supplied-verdict-holds lim number bv n fits shifted o .is };
+      decoding = λ lim number stored fits shifted anchors o m. record { is = decoding-holds lim number stored fits shifted anchors o m .is };
+      supplied = λ lim number bv stored fits shifted o m. record { is = supplied-holds lim number bv stored fits shifted o m .is };
+    }
+
+pub refusals-silent : Refused
+refusals-silent =
+    record {
+      trailer = λ stored. trailer-holds stored .quiet;
+      superblock = λ stored. superblock-holds stored .quiet;
+      checked = λ stored. checked-holds stored .quiet;
+      scan = scan-quiet;
+      replacement = replaced-quiet;
+      parse = parse-quiet;
+      row = row-quiet;
+      part = part-empty;
+      counted = counted-quiet;
+      starts = starts-quiet;
+      choice = λ lim number shifted anchors n o. choice-holds lim number shifted anchors n o .quiet;
+      support = λ lim number bv shifted n o. support-holds lim number bv shifted n o .quiet;
+      verdict = verdict-quiet;
+      supplied-verdict = supplied-verdict-quiet;
+      decoding = decoding-quiet;
+      supplied = supplied-quiet;
     }

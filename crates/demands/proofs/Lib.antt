@@ -4,7 +4,9 @@ pub mod Demand2
 pub mod Demand3
 pub mod Anchors
 pub mod DecodingCases
-pub mod AnswerNumbers
+pub mod TopCandidate
+pub mod AnswerLines
+pub mod ParseLines
 pub mod Shapes
 pub mod StoredBytes
 pub mod Masses

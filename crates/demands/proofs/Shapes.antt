@@ -21,8 +21,9 @@ use Rattle.choice.specs.Rules.{refusedOf, choiceOf}
 use Rattle.choice.specs.Supplied.{suppliedOf}
 use Rattle.verdict.specs.declared.Decoding.{Decoding}
 use Rattle.verdict.specs.Sectors.{refitOf}
-use Rattle.verdict.specs.Verdict.{refusedWith, refusal, unallocatedOf, settledOf, verdictOf}
+use Rattle.verdict.specs.Verdict.{refusedWith, refusal, unallocatedOf, settledOf, verdictBy, verdictOf}
 use Rattle.decode.specs.Decode.{lengthsChecked, decodingOf, suppliedDecodingOf}
+use Rattle.demands.specs.Told.{firstWrong}
 use Rattle.demands.proofs.DecodingCases.{settled-case, verdict-case, checked-case}
 
 -- an accepted decoding has this choice and these fits; a refused one has blank fits and no warnings
@@ -44,14 +45,14 @@ module _ (c : Choice) (fits : List Fit) where
   pub shaped-settled : (number : ℕ) (lenient : Bool) (ws : Warnings) → Shaped c fits (settledOf number lenient fits c ws)
   shaped-settled number lenient ws =
       settled-case (Shaped c fits) number fits c lenient ws shaped-refused
-      (λ s peak runner. shaped-refusal (answer.LowConfidenceKeystream number s peak runner) refl) (λ e all. shaped-taken all e)
+      (shaped-refusal (answer.LowConfidenceKeystream number _ _ _) refl) (λ e all. shaped-taken all e)
 
-module _ (lim number : ℕ) (stored : List ℕ) (fits : List Fit) (shifted anchors : List ℕ) (o : Options) where
-  pub shaped-verdict : Shaped (choiceOf lim number shifted anchors (rowCount stored) o) (refitOf fits shifted) (verdictOf lim number stored fits shifted anchors o)
+module _ (lim number : ℕ) (x : Answer) (n : ℕ) (fits : List Fit) (shifted anchors : List ℕ) (o : Options) where
+  pub shaped-verdict : Shaped (choiceOf lim number shifted anchors n o) (refitOf fits shifted) (verdictBy lim number x n fits shifted anchors o)
   shaped-verdict =
-      let c : Choice = choiceOf lim number shifted anchors (rowCount stored) o in
-      verdict-case (Shaped c (refitOf fits shifted)) lim number stored fits shifted anchors o
-      (shaped-refusal c (refitOf fits shifted) (integrityOf number stored)) (shaped-settled c (refitOf fits shifted) number (keystream o))
+      let c : Choice = choiceOf lim number shifted anchors n o in
+      verdict-case (Shaped c (refitOf fits shifted)) lim number x n fits shifted anchors o (λ e. shaped-refusal c (refitOf fits shifted) x)
+      (λ e. shaped-settled c (refitOf fits shifted) number (keystream o))
 
 -- the same of a whole decoding; an accepted one of a page that was written has the right lengths
 pub record Whole (stored shifted : List ℕ) (m : ℕ) (c : Choice) (fits : List Fit) (d : Decoding) : Type 0 where
@@ -69,7 +70,7 @@ module _ (stored shifted : List ℕ) (m : ℕ) (c : Choice) (fits : List Fit) wh
   unfolding unallocatedOf
   whole-checked d s =
       checked-case (Whole stored shifted m c fits) stored shifted m d (whole-refusal (answer.WrongPageLength (length stored)) refl)
-      (λ n. whole-refusal (answer.WrongBufferLength n) refl)
+      (whole-refusal (answer.WrongBufferLength (firstWrong m (length shifted))) refl)
       (λ l k j z.
       record { lengths = λ h. (l, (k, j)); accepted = λ n h. absurd (never-both n z); refused = λ h. absurd (never-both h refl) })
       (λ l k j. record { lengths = λ h. (l, (k, j)); accepted = λ z h. s .accepted h; refused = s .refused })
@@ -78,10 +79,10 @@ module _ (lim number : ℕ) (stored : List ℕ) (fits : List Fit) (shifted : Lis
   pub decoding-whole :
       (anchors : List ℕ)
       → Whole stored shifted m (choiceOf lim number shifted anchors (rowCount stored) o) (refitOf fits shifted) (decodingOf lim number stored fits shifted anchors o m)
-  unfolding decodingOf
+  unfolding decodingOf verdictOf
   decoding-whole anchors =
       whole-checked stored shifted m (choiceOf lim number shifted anchors (rowCount stored) o) (refitOf fits shifted) (verdictOf lim number stored fits shifted anchors o)
-      (shaped-verdict lim number stored fits shifted anchors o)
+      (shaped-verdict lim number (integrityOf number stored) (rowCount stored) fits shifted anchors o)
 
   pub supplied-whole :
       (bv : ℕ)

@@ -1,71 +1,158 @@
--- DEMAND 1: every input gets one of the answers. For each public entry that answers: the numbers that its answer can have. That it gives just
--- one outcome is the form of its contract: the result, and what each lent buffer holds at the end, equal functions of what was lent. A refused
--- decoding has blank fits and no warnings, and leaves out as it was. Assumes nothing.
+-- DEMAND 1: every input gets one of the answers. For each public entry that answers: the lines of document 01's table that its answer can have, and what a
+-- refusal leaves: blanks beside the answer, no warnings, and every lent buffer as it was. That an entry gives one outcome alone is SingleOutcome's.
+-- Assumes nothing.
 use Prim.Native.Nat.{ℕ}
 use mathlib.Core.Path.{_≡_}
 use mathlib.Core.Bool.{Bool, true, false}
-use mathlib.Core.List.{List, [], _∷_}
-use Rattle.lists.specs.Counts.{isIn}
-use Rattle.answers.specs.Answers.{numberOf, isAccepted}
-use Rattle.answers.specs.Warns.{noWarnings}
+use mathlib.Core.List.{List, []}
+use denote.Ref.{RefT, now}
+use lib.ListN.{length}
+use Rattle.answers.specs.Answers.{numberOf, isAccepted, noBvs}
+use Rattle.answers.specs.Warns.{noWarnings, noParseWarnings}
 use Rattle.answers.specs.declared.kinds.Answer.{Answer}
 use Rattle.answers.specs.declared.settings.Options.{Options}
 use Rattle.sector.specs.declared.fits.Fit.{Fit}
-use Rattle.page.specs.Trailer.{trailerAnswer}
-use Rattle.page.specs.Integrity.{integrityOf}
-use Rattle.page.specs.Superblock.{superblockAnswer, checkedSuperblock}
-use Rattle.summary.specs.Page.{blankFits, pageScanOf}
-use Rattle.summary.specs.Replace.{replaced}
+use Rattle.page.specs.Trailer.{blankTrailer, trailerAnswer}
+use Rattle.page.specs.Integrity.{writtenIntegrity, integrityOf}
+use Rattle.page.specs.Superblock.{blankSuperblock, superblockAnswer, checkedSuperblock}
+use Rattle.summary.specs.Page.{blankFits, pageScanOf, scanned}
+use Rattle.summary.specs.Replace.{replaced, storedAfter, shiftedAfter}
 use Rattle.slotted.specs.Parses as slotted
-use Rattle.rows.specs.RowAnswers.{rowAnswerOf}
-use Rattle.choice.specs.Rules.{choiceOf}
+use Rattle.slotted.specs.declared.directories.Declared.the-variants.{Scanned}
+use Rattle.slotted.specs.declared.directories.Parsed.{Parsed}
+use Rattle.rows.specs.Rows.{IsPart}
+use Rattle.rows.specs.RowAnswers.{rowOf, rowAnswerOf, rowsCountedOf, startsBy, startsOf}
+use Rattle.rows.specs.declared.spans.Span.the-variants.{NoRow}
+use Rattle.choice.specs.declared.Choice.{Choice}
+use Rattle.choice.specs.Rules.{refusedOf, choiceOf}
 use Rattle.choice.specs.Supplied.{suppliedOf}
 use Rattle.verdict.specs.declared.Decoding.{Decoding}
+use Rattle.verdict.specs.Verdict.{refusal, integrityRefuses, verdictBy, suppliedVerdict}
 use Rattle.decode.specs.Decode.{decodingOf, suppliedDecodingOf, writtenOf}
+use Rattle.demands.specs.Told.{OneOf, lengthLines, integrityLines, magicLines, scanLines, replacementLines, parseLines, rowLines}
+use Rattle.demands.specs.Told.{choiceLines, supportLines, verdictLines, suppliedVerdictLines, decodingLines, suppliedLines}
 
--- an answer has one of these numbers
-pub record OneOf (ns : List ℕ) (x : Answer) : Type 0 where
-  pub is : isIn (numberOf x) ns ≡ true
+-- the entries, each by the definition that its contract equates it to
+pub record Answered : Type 0 where
+  pub trailer : (stored : List ℕ) → OneOf (lengthLines stored) (trailerAnswer stored .answer)
+  pub integrity : (number : ℕ) (stored : List ℕ) → OneOf (integrityLines number stored) (integrityOf number stored)
+  pub written : (number : ℕ) (stored : List ℕ) → OneOf (integrityLines number stored) (writtenIntegrity number stored)
+  pub superblock : (stored : List ℕ) → OneOf (lengthLines stored) (superblockAnswer stored .answer)
+  pub checked : (stored : List ℕ) → OneOf (magicLines stored) (checkedSuperblock stored .answer)
+  pub scan : (number : ℕ) (stored : List ℕ) (m : ℕ) → OneOf (scanLines (length stored) m) (pageScanOf number stored m .answer)
+  pub replacement :
+      (number s : ℕ) (new : List ℕ) (n m : ℕ) (fits : List Fit)
+      → OneOf (replacementLines s n m) (replaced number s new n m fits .answer)
+  pub parse :
+      (lim number : ℕ) (plain : List ℕ) (lenient : Bool)
+      → OneOf (parseLines lim number plain) (slotted.parsedOf lim number plain lenient .answer)
+  pub row :
+      (lim number : ℕ) (plain : List ℕ) (lenient : Bool) (r : ℕ)
+      → OneOf (rowLines lim number plain r) (rowAnswerOf lim number plain lenient r)
+  pub counted :
+      (lim number : ℕ) (plain : List ℕ) (lenient : Bool)
+      → OneOf (parseLines lim number plain) (rowsCountedOf lim number plain lenient .answer)
+  pub starts :
+      (lim number : ℕ) (plain : List ℕ) (lenient : Bool)
+      → OneOf (parseLines lim number plain) (startsOf lim number plain lenient .answer)
+  pub choice :
+      (lim number : ℕ) (shifted anchors : List ℕ) (n : ℕ) (o : Options)
+      → OneOf (choiceLines number shifted) (choiceOf lim number shifted anchors n o .answer)
+  pub support :
+      (lim number bv : ℕ) (shifted : List ℕ) (n : ℕ) (o : Options)
+      → OneOf (supportLines number bv shifted) (suppliedOf lim number bv shifted n o .answer)
+  -- what was found of the page's integrity is passed on where it refuses
+  pub verdict :
+      (lim number : ℕ) (x : Answer) (n : ℕ) (fits : List Fit) (shifted anchors : List ℕ) (o : Options)
+      → integrityRefuses x o ≡ false
+      → OneOf (verdictLines number fits shifted) (verdictBy lim number x n fits shifted anchors o .choice .answer)
+  pub passed-on :
+      (lim number : ℕ) (x : Answer) (n : ℕ) (fits : List Fit) (shifted anchors : List ℕ) (o : Options)
+      → integrityRefuses x o ≡ true
+      → verdictBy lim number x n fits shifted anchors o ≡ refusal x
+  pub supplied-verdict :
+      (lim number bv n : ℕ) (fits : List Fit) (shifted : List ℕ) (o : Options)
+      → OneOf (suppliedVerdictLines number bv fits shifted) (suppliedVerdict lim number bv n fits shifted o .choice .answer)
+  pub decoding :
+      (lim number : ℕ) (stored : List ℕ) (fits : List Fit) (shifted anchors : List ℕ) (o : Options) (m : ℕ)
+      → OneOf (decodingLines number stored fits shifted m) (decodingOf lim number stored fits shifted anchors o m .choice .answer)
+  pub supplied :
+      (lim number bv : ℕ) (stored : List ℕ) (fits : List Fit) (shifted : List ℕ) (o : Options) (m : ℕ)
+      → OneOf (suppliedLines number bv stored fits shifted m) (suppliedDecodingOf lim number bv stored fits shifted o m .choice .answer)
 
--- a decoding that refuses says why, and nothing else
+-- ---- refusals
+
+-- a refused parse has no directory and no warnings
+pub record NoDirectory (p : Parsed) : Type 0 where
+  pub none : p .found ≡ false
+  pub blank : p .directory ≡ record { «array_start» = 0; end = 0; slots = slotted.tableOf []; len = 0; declared = Scanned }
+  pub warnings : p .warnings ≡ noParseWarnings
+
+-- a refused choice has no bv, no evidence and no warning; candidates stand beside answer 5 alone
+pub record NothingTaken (c : Choice) : Type 0 where
+  pub blank : c ≡ refusedOf (c .answer) (c .group)
+  pub group : (numberOf (c .answer) ≡ 5 → ⊥) → c .group ≡ noBvs
+
+-- a refused decoding says why, and nothing else
 pub record Silent (d : Decoding) : Type 0 where
+  pub choice : NothingTaken (d .choice)
   pub fits : d .fits ≡ blankFits
   pub warnings : d .warnings ≡ noWarnings
   pub out : (stored shifted out : List ℕ) → writtenOf d stored shifted out ≡ out
 
--- the entries, each by the definition that its contract equates it to
-pub record Answered : Type 0 where
-  pub trailer : (stored : List ℕ) → OneOf (0 ∷ 1 ∷ []) (trailerAnswer stored .answer)
-  pub integrity : (number : ℕ) (stored : List ℕ) → OneOf (0 ∷ 1 ∷ 3 ∷ 4 ∷ []) (integrityOf number stored)
-  pub superblock : (stored : List ℕ) → OneOf (0 ∷ 1 ∷ []) (superblockAnswer stored .answer)
-  pub checked : (stored : List ℕ) → OneOf (0 ∷ 1 ∷ 13 ∷ []) (checkedSuperblock stored .answer)
-  pub scan : (number : ℕ) (stored : List ℕ) (m : ℕ) → OneOf (0 ∷ 1 ∷ 2 ∷ []) (pageScanOf number stored m .answer)
+pub record Refused : Type 0 where
+  pub trailer : (stored : List ℕ) → isAccepted (trailerAnswer stored .answer) ≡ false → trailerAnswer stored .trailer ≡ blankTrailer
+  pub superblock : (stored : List ℕ) → isAccepted (superblockAnswer stored .answer) ≡ false → superblockAnswer stored .superblock ≡ blankSuperblock
+  pub checked : (stored : List ℕ) → isAccepted (checkedSuperblock stored .answer) ≡ false → checkedSuperblock stored .superblock ≡ blankSuperblock
+  pub scan :
+      (number : ℕ) (stored buffer : List ℕ)
+      → isAccepted (pageScanOf number stored (length buffer) .answer) ≡ false
+      → (pageScanOf number stored (length buffer) .fits ≡ blankFits) × (scanned number stored buffer ≡ buffer)
   pub replacement :
-      (number s : ℕ) (new : List ℕ) (n m : ℕ) (fits : List Fit)
-      → OneOf (0 ∷ 1 ∷ 2 ∷ 14 ∷ []) (replaced number s new n m fits .answer)
+      (number s : ℕ) (new stored shifted : List ℕ) (fits : List Fit)
+      → isAccepted (replaced number s new (length stored) (length shifted) fits .answer) ≡ false
+      → (replaced number s new (length stored) (length shifted) fits .fits ≡ fits)
+      × (storedAfter s new stored (length shifted) ≡ stored)
+      × (shiftedAfter number s new (length stored) shifted ≡ shifted)
   pub parse :
       (lim number : ℕ) (plain : List ℕ) (lenient : Bool)
-      → OneOf (0 ∷ 1 ∷ 8 ∷ 9 ∷ 10 ∷ 11 ∷ 12 ∷ []) (slotted.parsedOf lim number plain lenient .answer)
+      → isAccepted (slotted.parsedOf lim number plain lenient .answer) ≡ false
+      → NoDirectory (slotted.parsedOf lim number plain lenient)
   pub row :
       (lim number : ℕ) (plain : List ℕ) (lenient : Bool) (r : ℕ)
-      → OneOf (0 ∷ 1 ∷ 8 ∷ 9 ∷ 10 ∷ 11 ∷ 12 ∷ 16 ∷ []) (rowAnswerOf lim number plain lenient r)
+      → isAccepted (rowAnswerOf lim number plain lenient r) ≡ false
+      → rowOf lim plain lenient r ≡ NoRow
+  -- "every refusal gives the empty part", "at 0"
+  pub part : (s p : RefT (List ℕ)) → IsPart s p NoRow → (p .ptr ≡ s .ptr) × (now p ≡ [])
+  pub counted :
+      (lim number : ℕ) (plain : List ℕ) (lenient : Bool)
+      → isAccepted (rowsCountedOf lim number plain lenient .answer) ≡ false
+      → rowsCountedOf lim number plain lenient .rows ≡ 0
+  pub starts :
+      (lim number : ℕ) (plain : List ℕ) (lenient : Bool)
+      → isAccepted (startsOf lim number plain lenient .answer) ≡ false
+      → startsOf lim number plain lenient ≡ startsBy (startsOf lim number plain lenient .answer) []
   pub choice :
       (lim number : ℕ) (shifted anchors : List ℕ) (n : ℕ) (o : Options)
-      → OneOf (0 ∷ 2 ∷ 5 ∷ 6 ∷ 15 ∷ []) (choiceOf lim number shifted anchors n o .answer)
+      → isAccepted (choiceOf lim number shifted anchors n o .answer) ≡ false
+      → NothingTaken (choiceOf lim number shifted anchors n o)
   pub support :
       (lim number bv : ℕ) (shifted : List ℕ) (n : ℕ) (o : Options)
-      → OneOf (0 ∷ 2 ∷ 6 ∷ []) (suppliedOf lim number bv shifted n o .answer)
+      → isAccepted (suppliedOf lim number bv shifted n o .answer) ≡ false
+      → NothingTaken (suppliedOf lim number bv shifted n o)
+  pub verdict :
+      (lim number : ℕ) (x : Answer) (n : ℕ) (fits : List Fit) (shifted anchors : List ℕ) (o : Options)
+      → isAccepted (verdictBy lim number x n fits shifted anchors o .choice .answer) ≡ false
+      → Silent (verdictBy lim number x n fits shifted anchors o)
+  pub supplied-verdict :
+      (lim number bv n : ℕ) (fits : List Fit) (shifted : List ℕ) (o : Options)
+      → isAccepted (suppliedVerdict lim number bv n fits shifted o .choice .answer) ≡ false
+      → Silent (suppliedVerdict lim number bv n fits shifted o)
   pub decoding :
-      (lim number : ℕ) (stored : List ℕ) (fits : List Fit) (shifted anchors : List ℕ) (o : Options) (m : ℕ)
-      → OneOf (0 ∷ 1 ∷ 2 ∷ 3 ∷ 4 ∷ 5 ∷ 6 ∷ 7 ∷ 15 ∷ []) (decodingOf lim number stored fits shifted anchors o m .choice .answer)
-  pub supplied :
-      (lim number bv : ℕ) (stored : List ℕ) (fits : List Fit) (shifted : List ℕ) (o : Options) (m : ℕ)
-      → OneOf (0 ∷ 1 ∷ 2 ∷ 6 ∷ 7 ∷ []) (suppliedDecodingOf lim number bv stored fits shifted o m .choice .answer)
-  pub refused :
       (lim number : ℕ) (stored : List ℕ) (fits : List Fit) (shifted anchors : List ℕ) (o : Options) (m : ℕ)
       → isAccepted (decodingOf lim number stored fits shifted anchors o m .choice .answer) ≡ false
       → Silent (decodingOf lim number stored fits shifted anchors o m)
-  pub supplied-refused :
+  pub supplied :
       (lim number bv : ℕ) (stored : List ℕ) (fits : List Fit) (shifted : List ℕ) (o : Options) (m : ℕ)
       → isAccepted (suppliedDecodingOf lim number bv stored fits shifted o m .choice .answer) ≡ false
       → Silent (suppliedDecodingOf lim number bv stored fits shifted o m)

@@ -1,4 +1,5 @@
 -- The three demands as statements: what is to be believed stands here, and proofs/ has their proofs under the same names.
+pub mod Told
 pub mod Demand1
 pub mod Demand2
 pub mod Demand3

@@ -1,0 +1,158 @@
+-- What an answer tells: document 01's table of answers, for each entry the lines that it can give. Assumes nothing.
+use Prim.Native.Nat.{ℕ, _+_, _*_}
+use mathlib.Core.Path.{_≡_}
+use mathlib.Core.Bool.{Bool, false, _&&_}
+use mathlib.Core.List.{List, [], _∷_, _++_}
+use lib.Dec.{eqb, ltb}
+use lib.ListN.{length}
+use Rattle.lists.specs.Cases.{pick}
+use Rattle.answers.specs.Answers.{numberOf, valuesOf}
+use Rattle.answers.specs.declared.kinds.Answer.{Answer}
+use Rattle.sector.specs.declared.fits.Fit.{Fit}
+use Rattle.page.specs.Trailer.{rowCount, storedCrc}
+use Rattle.page.specs.Integrity.{computedCrc}
+use Rattle.page.specs.Superblock.{magicOf}
+use Rattle.slots.specs.Slots.{scannedDirectory, preludeOf}
+use Rattle.slots.specs.declared.scans.Found.{Found}
+use Rattle.slots.specs.declared.scans.Found.the-variants as scan
+use Rattle.slots.specs.declared.preludes.Prelude.{Prelude}
+use Rattle.slots.specs.declared.preludes.Prelude.the-variants as prelude
+use Rattle.slotted.specs.Directory.{insideOf}
+use Rattle.slotted.specs.Decisions.{startIn, countIn, foundOf}
+use Rattle.slotted.specs.declared.verdicts.Listed.{Listed}
+use Rattle.rows.specs.Rows.{headOr}
+use Rattle.votes.specs.Votes.{countsOf, topOf}
+use Rattle.verdict.specs.Sectors.{entry, refitOf, firstWeak}
+
+-- a line of the table: a number, and the values that it returns
+infix 70 _returns_
+pub data Line : Type 0 where
+  _returns_ : ℕ → List ℕ → Line
+
+-- the values in the lines that have a number
+unfoldable pub valuesAt : ℕ → List Line → List (List ℕ)
+valuesAt k [] = []
+valuesAt k (n returns values ∷ l) = pick (eqb k n) (values ∷ valuesAt k l) (valuesAt k l)
+
+-- an answer stands in a table: one line has its number, and that line has its values
+pub record OneOf (lines : List Line) (x : Answer) : Type 0 where
+  pub is : valuesAt (numberOf x) lines ≡ valuesOf x ∷ []
+
+-- ---- pages. "1: length; 3: page, stored, computed; 4: page; 13: magic"
+
+abbrev pub lengthLines : List ℕ → List Line
+lengthLines stored = 0 returns [] ∷ 1 returns (length stored ∷ []) ∷ []
+
+abbrev pub integrityLines : ℕ → List ℕ → List Line
+integrityLines number stored = lengthLines stored ++ (3 returns (number ∷ storedCrc stored ∷ computedCrc stored ∷ []) ∷ 4 returns (number ∷ []) ∷ [])
+
+abbrev pub magicLines : List ℕ → List Line
+magicLines stored = lengthLines stored ++ (13 returns (magicOf stored ∷ []) ∷ [])
+
+-- ---- summaries, for a page of n bytes and a buffer of m. "2: the first wrong length; 14: sector"
+
+abbrev pub scanLines : ℕ → ℕ → List Line
+scanLines n m = 0 returns [] ∷ 1 returns (n ∷ []) ∷ 2 returns (m ∷ []) ∷ []
+
+abbrev pub replacementLines : ℕ → ℕ → ℕ → List Line
+replacementLines s n m = scanLines n m ++ (14 returns (s ∷ []) ∷ [])
+
+-- ---- slots and rows of a plain page
+
+-- "8: reason: 1 n from 1 to 3; 2 fewer than 8 live; 3 unconfirmed"
+abbrev pub liveIn : Found → ℕ
+liveIn (scan.Directory d) = d .live
+liveIn scan.Nothing = 0
+
+abbrev pub isFew : ℕ → Bool
+isFew n = ltb 0 n && ltb n 4
+
+unfoldable pub reasonAt : ℕ → List ℕ → ℕ
+reasonAt lim plain = pick (isFew (rowCount plain)) 1 (pick (ltb (liveIn (scannedDirectory lim plain)) 8) 2 3)
+
+-- "10: found, expected, stop": of the prelude that breaks off
+abbrev pub foundIn : Prelude → ℕ
+foundIn (prelude.Truncated found stop) = found
+foundIn prelude.Missing = 0
+foundIn (prelude.One start) = 0
+foundIn prelude.Several = 0
+
+abbrev pub stopIn : Prelude → ℕ
+stopIn (prelude.Truncated found stop) = stop
+stopIn prelude.Missing = 0
+stopIn (prelude.One start) = 0
+stopIn prelude.Several = 0
+
+abbrev pub cutAt : ℕ → List ℕ → Prelude
+cutAt lim plain = preludeOf lim plain (rowCount plain)
+
+-- "12: offset, directory end": the first in slot order that lies inside the directory
+abbrev pub taken : ℕ → List ℕ → Listed
+taken lim plain = foundOf lim plain (rowCount plain) false .listed
+
+unfoldable pub offsetAt : ℕ → List ℕ → ℕ
+offsetAt lim plain = headOr 0 (insideOf plain (startIn (taken lim plain)) (countIn (taken lim plain)))
+
+unfoldable pub endAt : ℕ → List ℕ → ℕ
+endAt lim plain = startIn (taken lim plain) + 2 * countIn (taken lim plain)
+
+abbrev pub parseLines : ℕ → ℕ → List ℕ → List Line
+parseLines lim number plain =
+    0 returns []
+    ∷ 1 returns (length plain ∷ [])
+    ∷ 8 returns (number ∷ reasonAt lim plain ∷ [])
+    ∷ 9 returns (number ∷ [])
+    ∷ 10 returns (number ∷ foundIn (cutAt lim plain) ∷ rowCount plain ∷ stopIn (cutAt lim plain) ∷ [])
+    ∷ 11 returns (number ∷ [])
+    ∷ 12 returns (number ∷ offsetAt lim plain ∷ endAt lim plain ∷ [])
+    ∷ []
+
+-- "16: row number"
+abbrev pub rowLines : ℕ → ℕ → List ℕ → ℕ → List Line
+rowLines lim number plain r = parseLines lim number plain ++ (16 returns (r ∷ []) ∷ [])
+
+-- ---- choices, for the shifted bytes. "5: page, candidates", which stand beside it; "6: page, bv"; "15: page"
+
+abbrev pub choiceLines : ℕ → List ℕ → List Line
+choiceLines number shifted =
+    0 returns []
+    ∷ 2 returns (length shifted ∷ [])
+    ∷ 5 returns (number ∷ [])
+    ∷ 6 returns (number ∷ topOf (countsOf shifted) ∷ [])
+    ∷ 15 returns (number ∷ [])
+    ∷ []
+
+abbrev pub supportLines : ℕ → ℕ → List ℕ → List Line
+supportLines number bv shifted = 0 returns [] ∷ 2 returns (length shifted ∷ []) ∷ 6 returns (number ∷ bv ∷ []) ∷ []
+
+-- ---- decodings
+
+-- "7: page, sector, peak, runner-up": the first sector that is not confident
+abbrev pub weakLine : ℕ → List Fit → Line
+weakLine number fits = 7 returns (number ∷ firstWeak fits ∷ entry fits (firstWeak fits) .peak ∷ entry fits (firstWeak fits) .«runner_up» ∷ [])
+
+-- of a page that was written and whose integrity does not refuse
+abbrev pub verdictLines : ℕ → List Fit → List ℕ → List Line
+verdictLines number fits shifted = weakLine number (refitOf fits shifted) ∷ choiceLines number shifted
+
+abbrev pub suppliedVerdictLines : ℕ → ℕ → List Fit → List ℕ → List Line
+suppliedVerdictLines number bv fits shifted = weakLine number (refitOf fits shifted) ∷ supportLines number bv shifted
+
+-- "2: out not 4,096, then shifted not 4,080": for an out of m bytes, and k shifted ones
+abbrev pub firstWrong : ℕ → ℕ → ℕ
+firstWrong m k = pick (eqb m 4096) k m
+
+abbrev pub decodingLines : ℕ → List ℕ → List Fit → List ℕ → ℕ → List Line
+decodingLines number stored fits shifted m =
+    integrityLines number stored
+    ++ (2 returns (firstWrong m (length shifted) ∷ [])
+    ∷ 5 returns (number ∷ [])
+    ∷ 6 returns (number ∷ topOf (countsOf shifted) ∷ [])
+    ∷ weakLine number (refitOf fits shifted)
+    ∷ 15 returns (number ∷ [])
+    ∷ [])
+
+abbrev pub suppliedLines : ℕ → ℕ → List ℕ → List Fit → List ℕ → ℕ → List Line
+suppliedLines number bv stored fits shifted m =
+    lengthLines stored
+    ++ (2 returns (firstWrong m (length shifted) ∷ []) ∷ 6 returns (number ∷ bv ∷ []) ∷ weakLine number (refitOf fits shifted) ∷ [])
