@@ -34,10 +34,9 @@ use Rattle.answers.specs.Settings.{keystream}
 use Rattle.choice.specs.Rules.{takenOf, refusedOf, ambiguousOf, unverifiedOf, topCandidate, isCorroborated, ruleFour, ruleThree, isCalibrated, ruleTwo, soleOf, ruleOne, chosen, choiceOf}
 use Rattle.choice.specs.Supplied.{suppliedWith, suppliedBy, suppliedOf}
 use Rattle.verdict.specs.declared.Decoding.{Decoding}
-use Rattle.verdict.specs.Sectors.{entry, firstWeak}
 use Rattle.verdict.specs.Verdict.{refusal, unallocatedOf, settledOf}
 use Rattle.decode.specs.Decode.{lengthsChecked}
-use Rattle.demands.specs.Told.{Line, valuesAt, firstWrong}
+use Rattle.demands.specs.Told.{Line, valuesAt, weakValues, firstWrong}
 use Rattle.demands.specs.Demand1.{NothingTaken}
 use Rattle.demands.proofs.DecodingCases.{settled-case, checked-case}
 use Rattle.demands.proofs.TopCandidate.{top-bv}
@@ -181,7 +180,7 @@ module _ (lines : List Line) where
   pub gives-settled :
       (number : ℕ) (lenient : Bool) (fits : List Fit) (c : Choice) (ws : Warnings)
       → Chooses lines c
-      → Has lines 7 (number ∷ firstWeak fits ∷ entry fits (firstWeak fits) .peak ∷ entry fits (firstWeak fits) .«runner_up» ∷ [])
+      → Has lines 7 (weakValues number fits)
       → Gives lines (settledOf number lenient fits c ws)
   gives-settled number lenient fits c ws h seven =
       settled-case (Gives lines) number fits c lenient ws (λ e. record { is = h .is; quiet = h .quiet })
@@ -191,11 +190,11 @@ module _ (lines : List Line) where
       (stored shifted : List ℕ) (m : ℕ) (d : Decoding)
       → (length shifted ≡ 4080 → Gives lines d)
       → Has lines 0 []
-      → Has lines 1 (length stored ∷ [])
-      → Has lines 2 (firstWrong m (length shifted) ∷ [])
+      → ((length stored ≡ 4096 → ⊥) → Has lines 1 (length stored ∷ []))
+      → ((m ≡ 4096 → length shifted ≡ 4080 → ⊥) → Has lines 2 (firstWrong m (length shifted) ∷ []))
       → Gives lines (lengthsChecked stored shifted m d)
   unfolding unallocatedOf
   gives-checked stored shifted m d h zero one two =
-      checked-case (Gives lines) stored shifted m d (gives-refusal (answer.WrongPageLength (length stored)) one)
-      (gives-refusal (answer.WrongBufferLength (firstWrong m (length shifted))) two)
+      checked-case (Gives lines) stored shifted m d (λ e. gives-refusal (answer.WrongPageLength (length stored)) (one e))
+      (λ e. gives-refusal (answer.WrongBufferLength (firstWrong m (length shifted))) (two e))
       (λ l k j z. record { is = zero; quiet = λ e. absurd (never-both e refl) }) (λ l k j. h j)

@@ -3,6 +3,7 @@ use Prim.Native.Nat.{ℕ}
 use mathlib.Core.Path.{_≡_, refl, sym, subst}
 use mathlib.Core.Bool.{Bool, true, false}
 use mathlib.Core.List.{List}
+use borrow.Author.Tests.{eq-eqb}
 use lib.Dec.{eqb, ltb}
 use lib.ListN.{length}
 use Rattle.lists.specs.Cases.{pick}
@@ -66,8 +67,8 @@ module _ (P : Decoding → Type 0) where
   -- a wrong length is the page's, or the first of the buffers' that is wrong
   wrong-length :
       (n m k : ℕ)
-      → P (refusal (answer.WrongPageLength n))
-      → P (refusal (answer.WrongBufferLength (firstWrong m k)))
+      → ((n ≡ 4096 → ⊥) → P (refusal (answer.WrongPageLength n)))
+      → ((m ≡ 4096 → k ≡ 4080 → ⊥) → P (refusal (answer.WrongBufferLength (firstWrong m k))))
       → isAccepted (lengthsAnswer n m k) ≡ false
       → P (refusal (lengthsAnswer n m k))
   unfolding lengthsAnswer
@@ -80,15 +81,15 @@ module _ (P : Decoding → Type 0) where
       pick-case Q (eqb m 4096) shifted (answer.WrongBufferLength m)
       (λ b.
       pick-case Q (eqb k 4080) answer.Accepted (answer.WrongBufferLength k) (λ g h. absurd (never-both h refl))
-      (λ g h. subst wrong (sym (pick-true k m b)) buffer))
-      (λ b h. subst wrong (sym (pick-false k m b)) buffer))
-      (λ a h. page)
+      (λ g h. subst wrong (sym (pick-true k m b)) (buffer (λ x y. never-both g (eq-eqb k 4080 y)))))
+      (λ b h. subst wrong (sym (pick-false k m b)) (buffer (λ x y. never-both b (eq-eqb m 4096 x)))))
+      (λ a h. page (λ x. never-both a (eq-eqb n 4096 x)))
 
   -- a wrong length, a page of zeros, or what the verdict is
   pub checked-case :
       (stored shifted : List ℕ) (m : ℕ) (d : Decoding)
-      → P (refusal (answer.WrongPageLength (length stored)))
-      → P (refusal (answer.WrongBufferLength (firstWrong m (length shifted))))
+      → ((length stored ≡ 4096 → ⊥) → P (refusal (answer.WrongPageLength (length stored))))
+      → ((m ≡ 4096 → length shifted ≡ 4080 → ⊥) → P (refusal (answer.WrongBufferLength (firstWrong m (length shifted)))))
       → (length stored ≡ 4096 → m ≡ 4096 → length shifted ≡ 4080 → isUnallocated stored ≡ true → P unallocatedOf)
       → (length stored ≡ 4096 → m ≡ 4096 → length shifted ≡ 4080 → P d)
       → P (lengthsChecked stored shifted m d)

@@ -10,6 +10,7 @@ use lib.Dec.{eqb, ltb}
 use lib.ListN.{length}
 use Rattle.lists.specs.Cases.{pick}
 use Rattle.lists.specs.Pieces.{each, keep}
+use Rattle.lists.proofs.Booleans.{not-back}
 use Rattle.lists.proofs.Picks.{pick-case, never-both}
 use Rattle.answers.specs.Answers.{isAccepted}
 use Rattle.answers.specs.Settings.{keystream}
@@ -34,6 +35,7 @@ use Rattle.rows.specs.RowAnswers.{rowsIn, rowsOf, rowOf, spanAnswer, rowAnswerO
 use Rattle.rows.specs.declared.spans.Span.{Span}
 use Rattle.rows.specs.declared.spans.Span.the-variants.{At, NoRow}
 use Rattle.rows.proofs.RowAnswers.{no-rows}
+use Rattle.votes.specs.Votes.{countsOf, topOf}
 use Rattle.choice.specs.declared.Choice.{Choice}
 use Rattle.choice.specs.Rules.{refusedOf, choiceOf}
 use Rattle.choice.specs.Supplied.{suppliedOf}
@@ -42,7 +44,7 @@ use Rattle.verdict.specs.Sectors.{refitOf}
 use Rattle.verdict.specs.Verdict.{refusal, integrityRefuses, settledOf, verdictBy, verdictOf, suppliedVerdict}
 use Rattle.decode.specs.Decode.{decodingOf, suppliedDecodingOf, writtenOf}
 use Rattle.demands.specs.Told.{Line, valuesAt, OneOf, lengthLines, integrityLines, magicLines, scanLines, replacementLines, parseLines, rowLines}
-use Rattle.demands.specs.Told.{choiceLines, supportLines, verdictLines, suppliedVerdictLines, decodingLines, suppliedLines}
+use Rattle.demands.specs.Told.{choiceLines, supportLines, verdictLines, suppliedVerdictLines, weakValues, firstWrong, decodingLines, suppliedLines}
 use Rattle.demands.specs.Demand1.{Answered, NoDirectory, NothingTaken, Silent, Refused}
 use Rattle.demands.proofs.DecodingCases.{verdict-case}
 use Rattle.demands.proofs.AnswerLines.{Has, Chooses, Gives, choice-gives, supplied-gives, gives-refusal, gives-settled, gives-checked}
@@ -61,7 +63,12 @@ trailer-holds stored =
     pick-case (TrailerHolds stored) (not (isPage stored)) _ _ (λ e. record { line = record { is = refl }; quiet = λ q. refl })
     (λ e. record { line = record { is = refl }; quiet = λ q. absurd (never-both q refl) })
 
-module _ (lines : List Line) (number : ℕ) (stored : List ℕ) (zero : Has lines 0 []) (one : Has lines 1 (length stored ∷ []))
+module _
+    (lines : List Line)
+    (number : ℕ)
+    (stored : List ℕ)
+    (zero : Has lines 0 [])
+    (one : (length stored ≡ 4096 → ⊥) → Has lines 1 (length stored ∷ []))
     (three : Has lines 3 (number ∷ storedCrc stored ∷ computedCrc stored ∷ []))
     (four : Has lines 4 (number ∷ []))
   where
@@ -70,7 +77,8 @@ module _ (lines : List Line) (number : ℕ) (stored : List ℕ) (zero : Has line
     written-one =
         let bad : Answer = pick (not (trailerHolds number stored)) (answer.BadTrailer number) answer.Accepted in
         let crc : Answer = pick (not (eqb (storedCrc stored) (computedCrc stored))) (answer.BadCrc number (storedCrc stored) (computedCrc stored)) bad in
-        pick-case (OneOf lines) (not (isPage stored)) (answer.WrongPageLength (length stored)) crc (λ f. record { is = one })
+        pick-case (OneOf lines) (not (isPage stored)) (answer.WrongPageLength (length stored)) crc
+        (λ f. record { is = one (λ e. never-both (not-back f) (eq-eqb (length stored) 4096 e)) })
         (λ f.
         pick-case (OneOf lines) (not (eqb (storedCrc stored) (computedCrc stored))) (answer.BadCrc number (storedCrc stored) (computedCrc stored)) bad
         (λ g. record { is = three })
@@ -289,19 +297,33 @@ module _ (lim number bv n : ℕ) (fits : List Fit) (shifted : List ℕ) (o : Opt
       (shaped-settled (suppliedOf lim number bv shifted n o) (refitOf fits shifted) number (keystream o) noWarnings .refused e) e
 
 module _ (lim number : ℕ) (stored : List ℕ) (fits : List Fit) (shifted anchors : List ℕ) (o : Options) (m : ℕ) where
-  decoding-holds : Gives (decodingLines number stored fits shifted m) (decodingOf lim number stored fits shifted anchors o m)
-  unfolding decodingOf verdictOf valuesAt
-  decoding-holds =
-      let lines : List Line = decodingLines number stored fits shifted m in
+  pub decoding-gives :
+      (lines : List Line)
+      → Has lines 0 []
+      → ((length stored ≡ 4096 → ⊥) → Has lines 1 (length stored ∷ []))
+      → ((m ≡ 4096 → length shifted ≡ 4080 → ⊥) → Has lines 2 (firstWrong m (length shifted) ∷ []))
+      → Has lines 3 (number ∷ storedCrc stored ∷ computedCrc stored ∷ [])
+      → Has lines 4 (number ∷ [])
+      → Has lines 5 (number ∷ [])
+      → Has lines 6 (number ∷ topOf (countsOf shifted) ∷ [])
+      → Has lines 7 (weakValues number (refitOf fits shifted))
+      → Has lines 15 (number ∷ [])
+      → Gives lines (decodingOf lim number stored fits shifted anchors o m)
+  unfolding decodingOf verdictOf
+  decoding-gives lines zero one two three four five six seven fifteen =
       let x : Answer = integrityOf number stored in
       gives-checked lines stored shifted m (verdictOf lim number stored fits shifted anchors o)
       (λ k.
       verdict-case (Gives lines) lim number x (rowCount stored) fits shifted anchors o
-      (λ r q. gives-refusal lines x (integrity-one lines number stored refl refl refl refl .is))
+      (λ r q. gives-refusal lines x (integrity-one lines number stored zero one three four .is))
       (λ r ws.
       gives-settled lines number (keystream o) (refitOf fits shifted) (choiceOf lim number shifted anchors (rowCount stored) o) ws
-      (choice-gives lines lim number shifted anchors (rowCount stored) o refl (no-two lines (length shifted) k) refl refl refl) refl))
-      refl refl refl
+      (choice-gives lines lim number shifted anchors (rowCount stored) o zero (no-two lines (length shifted) k) five six fifteen) seven))
+      zero one two
+
+  decoding-holds : Gives (decodingLines number stored fits shifted m) (decodingOf lim number stored fits shifted anchors o m)
+  unfolding valuesAt
+  decoding-holds = decoding-gives (decodingLines number stored fits shifted m) refl (λ e. refl) (λ e. refl) refl refl refl refl refl refl
 
   decoding-quiet :
       isAccepted (decodingOf lim number stored fits shifted anchors o m .choice .answer) ≡ false
@@ -317,7 +339,7 @@ module _ (lim number bv : ℕ) (stored : List ℕ) (fits : List Fit) (shifted : 
       (λ k.
       gives-settled lines number (keystream o) (refitOf fits shifted) (suppliedOf lim number bv shifted (rowCount stored) o) noWarnings
       (supplied-gives lines number bv refl refl lim shifted (rowCount stored) o (no-two lines (length shifted) k)) refl)
-      refl refl refl
+      refl (λ e. refl) (λ e. refl)
 
   supplied-quiet :
       isAccepted (suppliedDecodingOf lim number bv stored fits shifted o m .choice .answer) ≡ false
@@ -331,8 +353,8 @@ unfolding valuesAt
 every-input-answered =
     record {
       trailer = λ stored. trailer-holds stored .line;
-      integrity = λ number stored. integrity-one (integrityLines number stored) number stored refl refl refl refl;
-      written = λ number stored. written-one (integrityLines number stored) number stored refl refl refl refl;
+      integrity = λ number stored. integrity-one (integrityLines number stored) number stored refl (λ e. refl) refl refl;
+      written = λ number stored. written-one (integrityLines number stored) number stored refl (λ e. refl) refl refl;
       superblock = λ stored. superblock-holds stored .line;
       checked = λ stored. checked-holds stored .line;
       scan = scan-one;

@@ -1,8 +1,11 @@
 -- The proofs of the three demands, and what they lean on.
 pub mod Demand1
+pub mod Replies
+pub mod CallsFromC
 pub mod Demand2
 pub mod Demand3
 pub mod Anchors
+pub mod SingleOutcome
 pub mod DecodingCases
 pub mod TopCandidate
 pub mod AnswerLines

@@ -69,8 +69,8 @@ module _ (stored shifted : List ℕ) (m : ℕ) (c : Choice) (fits : List Fit) wh
   pub whole-checked : (d : Decoding) → Shaped c fits d → Whole stored shifted m c fits (lengthsChecked stored shifted m d)
   unfolding unallocatedOf
   whole-checked d s =
-      checked-case (Whole stored shifted m c fits) stored shifted m d (whole-refusal (answer.WrongPageLength (length stored)) refl)
-      (whole-refusal (answer.WrongBufferLength (firstWrong m (length shifted))) refl)
+      checked-case (Whole stored shifted m c fits) stored shifted m d (λ e. whole-refusal (answer.WrongPageLength (length stored)) refl)
+      (λ e. whole-refusal (answer.WrongBufferLength (firstWrong m (length shifted))) refl)
       (λ l k j z.
       record { lengths = λ h. (l, (k, j)); accepted = λ n h. absurd (never-both n z); refused = λ h. absurd (never-both h refl) })
       (λ l k j. record { lengths = λ h. (l, (k, j)); accepted = λ z h. s .accepted h; refused = s .refused })

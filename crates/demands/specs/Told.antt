@@ -128,15 +128,15 @@ supportLines number bv shifted = 0 returns [] ∷ 2 returns (length shifted ∷ 
 -- ---- decodings
 
 -- "7: page, sector, peak, runner-up": the first sector that is not confident
-abbrev pub weakLine : ℕ → List Fit → Line
-weakLine number fits = 7 returns (number ∷ firstWeak fits ∷ entry fits (firstWeak fits) .peak ∷ entry fits (firstWeak fits) .«runner_up» ∷ [])
+abbrev pub weakValues : ℕ → List Fit → List ℕ
+weakValues number fits = number ∷ firstWeak fits ∷ entry fits (firstWeak fits) .peak ∷ entry fits (firstWeak fits) .«runner_up» ∷ []
 
 -- of a page that was written and whose integrity does not refuse
 abbrev pub verdictLines : ℕ → List Fit → List ℕ → List Line
-verdictLines number fits shifted = weakLine number (refitOf fits shifted) ∷ choiceLines number shifted
+verdictLines number fits shifted = 7 returns weakValues number (refitOf fits shifted) ∷ choiceLines number shifted
 
 abbrev pub suppliedVerdictLines : ℕ → ℕ → List Fit → List ℕ → List Line
-suppliedVerdictLines number bv fits shifted = weakLine number (refitOf fits shifted) ∷ supportLines number bv shifted
+suppliedVerdictLines number bv fits shifted = 7 returns weakValues number (refitOf fits shifted) ∷ supportLines number bv shifted
 
 -- "2: out not 4,096, then shifted not 4,080": for an out of m bytes, and k shifted ones
 abbrev pub firstWrong : ℕ → ℕ → ℕ
@@ -148,11 +148,11 @@ decodingLines number stored fits shifted m =
     ++ (2 returns (firstWrong m (length shifted) ∷ [])
     ∷ 5 returns (number ∷ [])
     ∷ 6 returns (number ∷ topOf (countsOf shifted) ∷ [])
-    ∷ weakLine number (refitOf fits shifted)
+    ∷ 7 returns weakValues number (refitOf fits shifted)
     ∷ 15 returns (number ∷ [])
     ∷ [])
 
 abbrev pub suppliedLines : ℕ → ℕ → List ℕ → List Fit → List ℕ → ℕ → List Line
 suppliedLines number bv stored fits shifted m =
     lengthLines stored
-    ++ (2 returns (firstWrong m (length shifted) ∷ []) ∷ 6 returns (number ∷ bv ∷ []) ∷ weakLine number (refitOf fits shifted) ∷ [])
+    ++ (2 returns (firstWrong m (length shifted) ∷ []) ∷ 6 returns (number ∷ bv ∷ []) ∷ 7 returns weakValues number (refitOf fits shifted) ∷ [])
