@@ -1,8 +1,9 @@
 -- The lines of the answers that the rules can give, in any table that has them; and what a refusal has beside its answer. Assumes nothing.
-use Prim.Native.Nat.{ℕ}
+use Prim.Native.Nat.{ℕ, _≤_}
 use mathlib.Core.Path.{_≡_, refl, sym, ap, _∙_}
 use mathlib.Core.Bool.{Bool, false, _&&_}
 use mathlib.Core.List.{List, [], _∷_}
+use native.Mathlib.Omega.{arith}
 use borrow.Author.Tests.{ltb-false}
 use lib.Dec.{eqb, ltb, leb}
 use lib.ListN.{length}
@@ -28,8 +29,9 @@ use Rattle.votes.specs.Votes.{countsOf, topOf, assessmentOf}
 use Rattle.votes.specs.declared.Candidate.{Candidate}
 use Rattle.votes.specs.declared.Assessment.{Assessment}
 use Rattle.choice.specs.declared.Choice.{Choice}
+use Rattle.groups.specs.declared.Group.{Group}
 use Rattle.groups.specs.declared.Group.the-variants.{Verified, Voted, Rivals, Contest}
-use Rattle.groups.specs.Groups.{firstOf, group}
+use Rattle.groups.specs.Groups.{firstOf, group, bvsOf}
 use Rattle.answers.specs.Settings.{keystream}
 use Rattle.choice.specs.Rules.{takenOf, refusedOf, ambiguousOf, unverifiedOf, topCandidate, isCorroborated, ruleFour, ruleThree, isCalibrated, ruleTwo, soleOf, ruleOne, chosen, choiceOf}
 use Rattle.choice.specs.Supplied.{suppliedWith, suppliedBy, suppliedOf}
@@ -37,9 +39,19 @@ use Rattle.verdict.specs.declared.Decoding.{Decoding}
 use Rattle.verdict.specs.Verdict.{refusal, unallocatedOf, settledOf}
 use Rattle.decode.specs.Decode.{lengthsChecked}
 use Rattle.demands.specs.Told.{Line, valuesAt, weakValues, firstWrong}
-use Rattle.demands.specs.Demand1.{NothingTaken}
+use Rattle.demands.specs.Demand1.{Ascending, NothingTaken}
 use Rattle.demands.proofs.DecodingCases.{settled-case, checked-case}
 use Rattle.demands.proofs.TopCandidate.{top-bv}
+use Rattle.demands.proofs.CandidatesAscend.{group-ascends}
+
+-- no candidates, in ascending order
+none-ascend : Ascending noBvs
+none-ascend = record { rising = λ i j q p. absurd (omega arith) }
+
+-- a refusal with no candidates beside it has nothing
+pub refusal-taken : (x : Answer) → NothingTaken (refusedOf x noBvs)
+unfolding refusedOf
+refusal-taken x = record { blank = refl; candidates = none-ascend; group = λ n. refl }
 
 -- a table has this line, and no other with its number
 abbrev pub Has : List Line → ℕ → List ℕ → Type 0
@@ -66,59 +78,72 @@ module _ (lines : List Line) where
 
   chooses-refused : (x : Answer) → Has lines (numberOf x) (valuesOf x) → Chooses lines (refusedOf x noBvs)
   unfolding refusedOf
-  chooses-refused x h = record { is = h; quiet = λ e. record { blank = refl; group = λ n. refl } }
+  chooses-refused x h = record { is = h; quiet = λ e. refusal-taken x }
 
-  chooses-between : (number : ℕ) (g : Bvs) → Has lines 5 (number ∷ []) → Chooses lines (refusedOf (answer.AmbiguousCalibration number) g)
+  chooses-between :
+      (number : ℕ) (g : Bvs)
+      → Has lines 5 (number ∷ [])
+      → Ascending g
+      → Chooses lines (refusedOf (answer.AmbiguousCalibration number) g)
   unfolding refusedOf
-  chooses-between number g h = record { is = h; quiet = λ e. record { blank = refl; group = λ n. absurd (n refl) } }
+  chooses-between number g h a = record { is = h; quiet = λ e. record { blank = refl; candidates = a; group = λ n. absurd (n refl) } }
 
-module _ (lines : List Line) (number : ℕ) (lenient : Bool) (a : Assessment) (zero : Has lines 0 []) (five : Has lines 5 (number ∷ [])) where
-  on-ambiguous : (g : List Candidate) → Chooses lines (ambiguousOf number lenient a g)
-  unfolding ambiguousOf
-  on-ambiguous g = pick-case (Chooses lines) lenient _ _ (λ e. chooses-taken lines a _ _ _ _ _ zero) (λ e. chooses-between lines number _ five)
+module _
+    (lines : List Line)
+    (number : ℕ)
+    (lenient : Bool)
+    (a : Assessment)
+    (ascend : (g : Group) → Ascending (bvsOf (group g a)))
+    (zero : Has lines 0 [])
+    (five : Has lines 5 (number ∷ []))
+  where
+    on-ambiguous : (g : Group) → Chooses lines (ambiguousOf number lenient a (group g a))
+    unfolding ambiguousOf
+    on-ambiguous g =
+        pick-case (Chooses lines) lenient _ _ (λ e. chooses-taken lines a _ _ _ _ _ zero) (λ e. chooses-between lines number _ five (ascend g))
 
-  on-sole : (v : Candidate) → Chooses lines (soleOf number lenient a v)
-  unfolding soleOf
-  on-sole v =
-      pick-case (Chooses lines) (eqb (length (group (Rivals (v .bv) (a .top)) a)) 0)
-      (takenOf a v source.TrailerRowCount confidence.Verified warning.Nothing noBvs)
-      (ambiguousOf number lenient a (group (Contest (v .bv) (a .top)) a)) (λ e. chooses-taken lines a _ _ _ _ _ zero)
-      (λ e. on-ambiguous (group (Contest (v .bv) (a .top)) a))
+    on-sole : (v : Candidate) → Chooses lines (soleOf number lenient a v)
+    unfolding soleOf
+    on-sole v =
+        pick-case (Chooses lines) (eqb (length (group (Rivals (v .bv) (a .top)) a)) 0)
+        (takenOf a v source.TrailerRowCount confidence.Verified warning.Nothing noBvs)
+        (ambiguousOf number lenient a (group (Contest (v .bv) (a .top)) a)) (λ e. chooses-taken lines a _ _ _ _ _ zero)
+        (λ e. on-ambiguous (Contest (v .bv) (a .top)))
 
-  module _ (six : Has lines 6 (number ∷ topCandidate a .bv ∷ [])) where
-    on-four : Chooses lines (ruleFour number lenient a)
-    unfolding unverifiedOf
-    on-four =
-        pick-case (Chooses lines) lenient _ _ (λ e. chooses-taken lines a _ _ _ _ _ zero)
-        (λ e. chooses-refused lines (answer.KeystreamUnverified number (topCandidate a .bv)) six)
+    module _ (six : Has lines 6 (number ∷ topCandidate a .bv ∷ [])) where
+      on-four : Chooses lines (ruleFour number lenient a)
+      unfolding unverifiedOf
+      on-four =
+          pick-case (Chooses lines) lenient _ _ (λ e. chooses-taken lines a _ _ _ _ _ zero)
+          (λ e. chooses-refused lines (answer.KeystreamUnverified number (topCandidate a .bv)) six)
 
-    on-three : Chooses lines (ruleThree number lenient a)
-    unfolding ruleThree
-    on-three =
-        pick-case (Chooses lines) (isCorroborated a (topCandidate a))
-        (takenOf a (topCandidate a) source.Corroborated confidence.Corroborated warning.Nothing noBvs)
-        (ruleFour number lenient a) (λ e. chooses-taken lines a _ _ _ _ _ zero) (λ e. on-four)
+      on-three : Chooses lines (ruleThree number lenient a)
+      unfolding ruleThree
+      on-three =
+          pick-case (Chooses lines) (isCorroborated a (topCandidate a))
+          (takenOf a (topCandidate a) source.Corroborated confidence.Corroborated warning.Nothing noBvs)
+          (ruleFour number lenient a) (λ e. chooses-taken lines a _ _ _ _ _ zero) (λ e. on-four)
 
-    on-two : Chooses lines (ruleTwo number lenient a)
-    unfolding ruleTwo
-    on-two =
-        let voted : List Candidate = group Voted a in
-        let one : Choice = takenOf a (firstOf voted) source.ExactSectors confidence.Calibrated warning.Nothing noBvs in
-        pick-case (Chooses lines) (leb 2 (length voted)) (ambiguousOf number lenient a voted)
-        (pick (isCalibrated (length voted) voted) one (ruleThree number lenient a)) (λ e. on-ambiguous voted)
-        (λ e.
-        pick-case (Chooses lines) (isCalibrated (length voted) voted) one (ruleThree number lenient a) (λ f. chooses-taken lines a _ _ _ _ _ zero)
-        (λ f. on-three))
+      on-two : Chooses lines (ruleTwo number lenient a)
+      unfolding ruleTwo
+      on-two =
+          let voted : List Candidate = group Voted a in
+          let one : Choice = takenOf a (firstOf voted) source.ExactSectors confidence.Calibrated warning.Nothing noBvs in
+          pick-case (Chooses lines) (leb 2 (length voted)) (ambiguousOf number lenient a voted)
+          (pick (isCalibrated (length voted) voted) one (ruleThree number lenient a)) (λ e. on-ambiguous Voted)
+          (λ e.
+          pick-case (Chooses lines) (isCalibrated (length voted) voted) one (ruleThree number lenient a) (λ f. chooses-taken lines a _ _ _ _ _ zero)
+          (λ f. on-three))
 
-    on-one : Chooses lines (ruleOne number lenient a)
-    unfolding ruleOne
-    on-one =
-        let verified : List Candidate = group Verified a in
-        let rest : Choice = pick (eqb (length verified) 1) (soleOf number lenient a (firstOf verified)) (ruleTwo number lenient a) in
-        pick-case (Chooses lines) (leb 2 (length verified)) (ambiguousOf number lenient a verified) rest (λ e. on-ambiguous verified)
-        (λ e.
-        pick-case (Chooses lines) (eqb (length verified) 1) (soleOf number lenient a (firstOf verified)) (ruleTwo number lenient a)
-        (λ f. on-sole (firstOf verified)) (λ f. on-two))
+      on-one : Chooses lines (ruleOne number lenient a)
+      unfolding ruleOne
+      on-one =
+          let verified : List Candidate = group Verified a in
+          let rest : Choice = pick (eqb (length verified) 1) (soleOf number lenient a (firstOf verified)) (ruleTwo number lenient a) in
+          pick-case (Chooses lines) (leb 2 (length verified)) (ambiguousOf number lenient a verified) rest (λ e. on-ambiguous Verified)
+          (λ e.
+          pick-case (Chooses lines) (eqb (length verified) 1) (soleOf number lenient a (firstOf verified)) (ruleTwo number lenient a)
+          (λ f. on-sole (firstOf verified)) (λ f. on-two))
 
 module _ (lines : List Line) (lim number : ℕ) (shifted anchors : List ℕ) (n : ℕ) (o : Options) where
   pub choice-gives :
@@ -137,8 +162,10 @@ module _ (lines : List Line) (lim number : ℕ) (shifted anchors : List ℕ) (n 
       pick-case (Chooses lines) (ltb 8 (a .candidates .len)) full (ruleOne number (keystream o) a)
       (λ f. chooses-refused lines (answer.TooManyCandidates number) fifteen)
       (λ f.
-      let top : topCandidate a .bv ≡ topOf (countsOf shifted) = top-bv lim shifted anchors n (o .«min_trailer_count») (ltb-false 8 (a .candidates .len) f) in
-      on-one lines number (keystream o) a zero five (six ∙ ap (λ (v : ℕ). (number ∷ v ∷ []) ∷ []) (sym top))))
+      let few : a .candidates .len ≤ 8 = ltb-false 8 (a .candidates .len) f in
+      let top : topCandidate a .bv ≡ topOf (countsOf shifted) = top-bv lim shifted anchors n (o .«min_trailer_count») few in
+      on-one lines number (keystream o) a (λ g. group-ascends lim shifted anchors n (o .«min_trailer_count») g few) zero five
+      (six ∙ ap (λ (v : ℕ). (number ∷ v ∷ []) ∷ []) (sym top))))
       (λ e. chooses-refused lines (answer.WrongBufferLength (length shifted)) (two e))
 
 module _ (lines : List Line) (number bv : ℕ) (zero : Has lines 0 []) (six : Has lines 6 (number ∷ bv ∷ [])) where
@@ -175,7 +202,7 @@ module _ (lines : List Line) (number bv : ℕ) (zero : Has lines 0 []) (six : Ha
 module _ (lines : List Line) where
   pub gives-refusal : (x : Answer) → Has lines (numberOf x) (valuesOf x) → Gives lines (refusal x)
   unfolding refusedOf
-  gives-refusal x h = record { is = h; quiet = λ e. record { blank = refl; group = λ n. refl } }
+  gives-refusal x h = record { is = h; quiet = λ e. refusal-taken x }
 
   pub gives-settled :
       (number : ℕ) (lenient : Bool) (fits : List Fit) (c : Choice) (ws : Warnings)

@@ -37,7 +37,7 @@ use Rattle.rows.specs.declared.spans.Span.the-variants.{At, NoRow}
 use Rattle.rows.proofs.RowAnswers.{no-rows}
 use Rattle.votes.specs.Votes.{countsOf, topOf}
 use Rattle.choice.specs.declared.Choice.{Choice}
-use Rattle.choice.specs.Rules.{refusedOf, choiceOf}
+use Rattle.choice.specs.Rules.{choiceOf}
 use Rattle.choice.specs.Supplied.{suppliedOf}
 use Rattle.verdict.specs.declared.Decoding.{Decoding}
 use Rattle.verdict.specs.Sectors.{refitOf}
@@ -47,7 +47,7 @@ use Rattle.demands.specs.Told.{Line, valuesAt, OneOf, lengthLines, integ
 use Rattle.demands.specs.Told.{choiceLines, supportLines, verdictLines, suppliedVerdictLines, weakValues, firstWrong, decodingLines, suppliedLines}
 use Rattle.demands.specs.Demand1.{Answered, NoDirectory, NothingTaken, Silent, Refused}
 use Rattle.demands.proofs.DecodingCases.{verdict-case}
-use Rattle.demands.proofs.AnswerLines.{Has, Chooses, Gives, choice-gives, supplied-gives, gives-refusal, gives-settled, gives-checked}
+use Rattle.demands.proofs.AnswerLines.{Has, Chooses, Gives, choice-gives, supplied-gives, refusal-taken, gives-refusal, gives-settled, gives-checked}
 use Rattle.demands.proofs.ParseLines.{HasParse, Settles, decision-settles, no-directory}
 use Rattle.demands.proofs.Shapes.{shaped-settled, shaped-verdict, decoding-whole, supplied-whole}
 
@@ -227,10 +227,6 @@ part-empty : (s p : RefT (List ℕ)) → IsPart s p NoRow → (p .ptr ≡ s .ptr
 part-empty s p h = (h .place ∙ ap (λ (k : ℕ). (s .ptr .0, k)) (zero-add (s .ptr .1)), h .bytes)
 
 -- ---- choices and decodings
-
-refusal-taken : (x : Answer) → NothingTaken (refusal x .choice)
-unfolding refusedOf
-refusal-taken x = record { blank = refl; group = λ n. refl }
 
 silent : (d : Decoding) → NothingTaken (d .choice) → (d .fits ≡ blankFits) × (d .warnings ≡ noWarnings) → isAccepted (d .choice .answer) ≡ false → Silent d
 unfolding writtenOf

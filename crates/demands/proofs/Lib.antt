@@ -1,4 +1,4 @@
--- The proofs of the three demands, and what they lean on.
+-- The proofs of the demands, and what they lean on.
 pub mod Demand1
 pub mod Replies
 pub mod CallsFromC
@@ -8,6 +8,7 @@ pub mod Anchors
 pub mod SingleOutcome
 pub mod DecodingCases
 pub mod TopCandidate
+pub mod CandidatesAscend
 pub mod AnswerLines
 pub mod ParseLines
 pub mod Shapes

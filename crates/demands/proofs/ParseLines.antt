@@ -29,7 +29,7 @@ use Rattle.slotted.specs.declared.verdicts.Verdict.the-variants as verdict
 use Rattle.slotted.specs.declared.verdicts.Listed.{Listed}
 use Rattle.slotted.specs.declared.verdicts.Decided.{Decided}
 use Rattle.rows.specs.Rows.{headOr}
-use Rattle.demands.specs.Told.{Line, valuesAt, liveIn, isFew, reasonAt, foundIn, stopIn, cutAt, offsetAt, endAt}
+use Rattle.demands.specs.Told.{Line, valuesAt, liveIn, isFew, reasonAt, foundIn, stopIn, preludeAt, offsetAt, endAt}
 use Rattle.demands.specs.Demand1.{NoDirectory}
 use Rattle.demands.proofs.AnswerLines.{Has}
 
@@ -39,7 +39,7 @@ pub record HasParse (lines : List Line) (lim number : ℕ) (plain : List ℕ) : 
   pub one : Has lines 1 (length plain ∷ [])
   pub eight : Has lines 8 (number ∷ reasonAt lim plain ∷ [])
   pub nine : Has lines 9 (number ∷ [])
-  pub ten : Has lines 10 (number ∷ foundIn (cutAt lim plain) ∷ rowCount plain ∷ stopIn (cutAt lim plain) ∷ [])
+  pub ten : Has lines 10 (number ∷ foundIn (preludeAt lim plain) ∷ rowCount plain ∷ stopIn (preludeAt lim plain) ∷ [])
   pub eleven : Has lines 11 (number ∷ [])
   pub twelve : Has lines 12 (number ∷ offsetAt lim plain ∷ endAt lim plain ∷ [])
 

@@ -1,15 +1,17 @@
 -- DEMAND 1: every input gets one of the answers. For each public entry that answers: the lines of document 01's table that its answer can have, and what a
 -- refusal leaves: blanks beside the answer, no warnings, and every lent buffer as it was. That an entry gives one outcome alone is SingleOutcome's.
 -- Assumes nothing.
-use Prim.Native.Nat.{ℕ}
+use Prim.Native.Nat.{ℕ, _<_}
 use mathlib.Core.Path.{_≡_}
 use mathlib.Core.Bool.{Bool, true, false}
 use mathlib.Core.List.{List, []}
 use denote.Ref.{RefT, now}
 use lib.ListN.{length}
+use Rattle.lists.specs.Bytes.{byteAt}
 use Rattle.answers.specs.Answers.{numberOf, isAccepted, noBvs}
 use Rattle.answers.specs.Warns.{noWarnings, noParseWarnings}
 use Rattle.answers.specs.declared.kinds.Answer.{Answer}
+use Rattle.answers.specs.declared.kinds.Bvs.{Bvs}
 use Rattle.answers.specs.declared.settings.Options.{Options}
 use Rattle.sector.specs.declared.fits.Fit.{Fit}
 use Rattle.page.specs.Trailer.{blankTrailer, trailerAnswer}
@@ -88,9 +90,14 @@ pub record NoDirectory (p : Parsed) : Type 0 where
   pub blank : p .directory ≡ record { «array_start» = 0; end = 0; slots = slotted.tableOf []; len = 0; declared = Scanned }
   pub warnings : p .warnings ≡ noParseWarnings
 
--- a refused choice has no bv, no evidence and no warning; candidates stand beside answer 5 alone
+-- values of bv in ascending order, each once
+pub record Ascending (t : Bvs) : Type 0 where
+  pub rising : (i j : ℕ) → i < j → j < t .len → byteAt (t .items) i < byteAt (t .items) j
+
+-- a refused choice has no bv, no evidence and no warning; "5: page, candidates ascending", which stand beside no other answer
 pub record NothingTaken (c : Choice) : Type 0 where
   pub blank : c ≡ refusedOf (c .answer) (c .group)
+  pub candidates : Ascending (c .group)
   pub group : (numberOf (c .answer) ≡ 5 → ⊥) → c .group ≡ noBvs
 
 -- a refused decoding says why, and nothing else

@@ -1,4 +1,5 @@
--- The three demands as statements: what is to be believed stands here, and proofs/ has their proofs under the same names.
+-- The demands as statements: what is to be believed stands here, and proofs/ has their proofs under the same names.
+-- Demand 1, of the entries, of the program's lines and of the functions for C
 pub mod Told
 pub mod Demand1
 pub mod Replies

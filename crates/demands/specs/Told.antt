@@ -83,18 +83,18 @@ stopIn prelude.Missing = 0
 stopIn (prelude.One start) = 0
 stopIn prelude.Several = 0
 
-abbrev pub cutAt : ℕ → List ℕ → Prelude
-cutAt lim plain = preludeOf lim plain (rowCount plain)
+abbrev pub preludeAt : ℕ → List ℕ → Prelude
+preludeAt lim plain = preludeOf lim plain (rowCount plain)
 
 -- "12: offset, directory end": the first in slot order that lies inside the directory
-abbrev pub taken : ℕ → List ℕ → Listed
-taken lim plain = foundOf lim plain (rowCount plain) false .listed
+abbrev pub listedAt : ℕ → List ℕ → Listed
+listedAt lim plain = foundOf lim plain (rowCount plain) false .listed
 
 unfoldable pub offsetAt : ℕ → List ℕ → ℕ
-offsetAt lim plain = headOr 0 (insideOf plain (startIn (taken lim plain)) (countIn (taken lim plain)))
+offsetAt lim plain = headOr 0 (insideOf plain (startIn (listedAt lim plain)) (countIn (listedAt lim plain)))
 
 unfoldable pub endAt : ℕ → List ℕ → ℕ
-endAt lim plain = startIn (taken lim plain) + 2 * countIn (taken lim plain)
+endAt lim plain = startIn (listedAt lim plain) + 2 * countIn (listedAt lim plain)
 
 abbrev pub parseLines : ℕ → ℕ → List ℕ → List Line
 parseLines lim number plain =
@@ -102,7 +102,7 @@ parseLines lim number plain =
     ∷ 1 returns (length plain ∷ [])
     ∷ 8 returns (number ∷ reasonAt lim plain ∷ [])
     ∷ 9 returns (number ∷ [])
-    ∷ 10 returns (number ∷ foundIn (cutAt lim plain) ∷ rowCount plain ∷ stopIn (cutAt lim plain) ∷ [])
+    ∷ 10 returns (number ∷ foundIn (preludeAt lim plain) ∷ rowCount plain ∷ stopIn (preludeAt lim plain) ∷ [])
     ∷ 11 returns (number ∷ [])
     ∷ 12 returns (number ∷ offsetAt lim plain ∷ endAt lim plain ∷ [])
     ∷ []
