@@ -51,7 +51,8 @@ kept-fresh =
       afresh =
           λ lim number stored buffer rs hp hb.
           let f : Fresh number (atScan number stored buffer) = fresh-scan number stored buffer hp hb in
-          read-afresh lim number (afterAll number (atScan number stored buffer) rs) (edited stored rs) (fresh-after-all number rs (atScan number stored buffer) f)
+          read-afresh lim number (afterAll number (atScan number stored buffer) rs) (edited stored rs)
+          (fresh-after-all number rs (atScan number stored buffer) f)
           (stored-after-all number rs (atScan number stored buffer) f);
       others = one-sector;
     }

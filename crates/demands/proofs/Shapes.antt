@@ -78,15 +78,18 @@ module _ (stored shifted : List ℕ) (m : ℕ) (c : Choice) (fits : List Fit) wh
 module _ (lim number : ℕ) (stored : List ℕ) (fits : List Fit) (shifted : List ℕ) (o : Options) (m : ℕ) where
   pub decoding-whole :
       (anchors : List ℕ)
-      → Whole stored shifted m (choiceOf lim number shifted anchors (rowCount stored) o) (refitOf fits shifted) (decodingOf lim number stored fits shifted anchors o m)
+      → Whole stored shifted m (choiceOf lim number shifted anchors (rowCount stored) o) (refitOf fits shifted)
+      (decodingOf lim number stored fits shifted anchors o m)
   unfolding decodingOf verdictOf
   decoding-whole anchors =
-      whole-checked stored shifted m (choiceOf lim number shifted anchors (rowCount stored) o) (refitOf fits shifted) (verdictOf lim number stored fits shifted anchors o)
+      whole-checked stored shifted m (choiceOf lim number shifted anchors (rowCount stored) o) (refitOf fits shifted)
+      (verdictOf lim number stored fits shifted anchors o)
       (shaped-verdict lim number (integrityOf number stored) (rowCount stored) fits shifted anchors o)
 
   pub supplied-whole :
       (bv : ℕ)
-      → Whole stored shifted m (suppliedOf lim number bv shifted (rowCount stored) o) (refitOf fits shifted) (suppliedDecodingOf lim number bv stored fits shifted o m)
+      → Whole stored shifted m (suppliedOf lim number bv shifted (rowCount stored) o) (refitOf fits shifted)
+      (suppliedDecodingOf lim number bv stored fits shifted o m)
   unfolding suppliedDecodingOf
   supplied-whole bv =
       let c : Choice = suppliedOf lim number bv shifted (rowCount stored) o in

@@ -36,15 +36,18 @@ use Rattle.demands.specs.Told.{choiceLines, supportLines, verdictLines, 
 
 -- the entries, each by the definition that its contract equates it to
 pub record Answered : Type 0 where
+  -- `PageTrailer::parse`, `check_integrity`, `check_written`, `Superblock::parse`, `parse_checked`
   pub trailer : (stored : List ℕ) → OneOf (lengthLines stored) (trailerAnswer stored .answer)
   pub integrity : (number : ℕ) (stored : List ℕ) → OneOf (integrityLines number stored) (integrityOf number stored)
   pub written : (number : ℕ) (stored : List ℕ) → OneOf (integrityLines number stored) (writtenIntegrity number stored)
   pub superblock : (stored : List ℕ) → OneOf (lengthLines stored) (superblockAnswer stored .answer)
   pub checked : (stored : List ℕ) → OneOf (magicLines stored) (checkedSuperblock stored .answer)
+  -- `scan_page`, `replace_sector`
   pub scan : (number : ℕ) (stored : List ℕ) (m : ℕ) → OneOf (scanLines (length stored) m) (pageScanOf number stored m .answer)
   pub replacement :
       (number s : ℕ) (new : List ℕ) (n m : ℕ) (fits : List Fit)
       → OneOf (replacementLines s n m) (replaced number s new n m fits .answer)
+  -- `parse` and `parse_answer`, `row_answer` and `row_found`, `rows_counted`, `row_starts`
   pub parse :
       (lim number : ℕ) (plain : List ℕ) (lenient : Bool)
       → OneOf (parseLines lim number plain) (slotted.parsedOf lim number plain lenient .answer)
@@ -57,13 +60,14 @@ pub record Answered : Type 0 where
   pub starts :
       (lim number : ℕ) (plain : List ℕ) (lenient : Bool)
       → OneOf (parseLines lim number plain) (startsOf lim number plain lenient .answer)
+  -- `choose_bv`, `supplied_bv`
   pub choice :
       (lim number : ℕ) (shifted anchors : List ℕ) (n : ℕ) (o : Options)
       → OneOf (choiceLines number shifted) (choiceOf lim number shifted anchors n o .answer)
   pub support :
       (lim number bv : ℕ) (shifted : List ℕ) (n : ℕ) (o : Options)
       → OneOf (supportLines number bv shifted) (suppliedOf lim number bv shifted n o .answer)
-  -- what was found of the page's integrity is passed on where it refuses
+  -- `decide` and `decide_supplied` of `verdict`: what was found of the page's integrity is passed on where it refuses
   pub verdict :
       (lim number : ℕ) (x : Answer) (n : ℕ) (fits : List Fit) (shifted anchors : List ℕ) (o : Options)
       → integrityRefuses x o ≡ false
@@ -75,6 +79,7 @@ pub record Answered : Type 0 where
   pub supplied-verdict :
       (lim number bv n : ℕ) (fits : List Fit) (shifted : List ℕ) (o : Options)
       → OneOf (suppliedVerdictLines number bv fits shifted) (suppliedVerdict lim number bv n fits shifted o .choice .answer)
+  -- `decode_page` and `decode_summary`, `decode_with_bv` and `decode_summary_with_bv`
   pub decoding :
       (lim number : ℕ) (stored : List ℕ) (fits : List Fit) (shifted anchors : List ℕ) (o : Options) (m : ℕ)
       → OneOf (decodingLines number stored fits shifted m) (decodingOf lim number stored fits shifted anchors o m .choice .answer)
