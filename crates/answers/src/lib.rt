@@ -1,4 +1,4 @@
-// Every answer of the reader, and what stands beside one: document 01, "Answer numbers", with the fields of the Rust's
+// Every answer of the reader, and what stands beside one: document 01, "Answer numbers", with the fields of the original's
 // error.rs, warning.rs and options.rs. A list stands beside its answer in a fixed table, whose unused places hold a fixed blank.
 mod kinds;
 mod notices;

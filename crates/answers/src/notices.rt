@@ -1,4 +1,4 @@
-// Warnings: what was accepted under leniency, with the Rust's fields.
+// Warnings: what was accepted under leniency, with the original's fields.
 ghost use mathlib.Core.Path.{_≡_};
 ghost use Rattle.answers.specs.Values.{placed};
 ghost use Rattle.answers.specs.Warns.{warningNumber, warningValues, noWarnings, withWarning, noParseWarnings, withParseWarning};

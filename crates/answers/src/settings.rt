@@ -49,7 +49,7 @@ pub struct Options {
 }
 
 impl Options {
-    // The Rust's T: the pairs (1, 0) and (2, 0) are the commonest in page data, so a match on them says little.
+    // The original's T: the pairs (1, 0) and (2, 0) are the commonest in page data, so a match on them says little.
     pub const MIN_TRAILER_COUNT: u8 = 4;
 
     pub fn new(bits: u8, min_trailer_count: u8) -> Self
@@ -62,7 +62,7 @@ impl Options {
         }
     }
 
-    // Nothing relaxed, and the Rust's T.
+    // Nothing relaxed, and the original's T.
     pub fn strict() -> Self
         ensures { λ r. ⌜ r ≡ optionsOf 0 4 ⌝ }
     {

@@ -1,4 +1,4 @@
-// CRC-32: the 32-bit frame check sequence of ITU-T V.42 (8.1.1.6.2), which a page's trailer holds over the bytes before it. The Rust
+// CRC-32: the 32-bit frame check sequence of ITU-T V.42 (8.1.1.6.2), which a page's trailer holds over the bytes before it. The original
 // calls crc32fast for it.
 //
 // Modulo the generator, x^300 = x^155 + x^117 + x^89 + 1. The speed comes from that sparse relation, and no step takes a table:

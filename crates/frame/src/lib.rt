@@ -1,4 +1,4 @@
-// A frame read from a line of hexadecimal: document 01, "The program". Functions on slices, with no input or output. The Rust has no such part.
+// A frame read from a line of hexadecimal: document 01, "The program". Functions on slices, with no input or output. The original has no such part.
 mod reading;
 
 pub use reading::FRAME_MOST;

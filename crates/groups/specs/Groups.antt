@@ -61,17 +61,18 @@ outranks a b =
 unfoldable pub higher : Candidate → Candidate → Candidate
 higher best c = pick (outranks c best) c best
 
+-- its meaning is `meanings/Ranking.highest-passes`: a member that comes before every other
 unfoldable pub highestOf : List Candidate → Candidate
 highestOf l = fold higher (firstOf l) l
 
--- the greatest count of a group, 0 where it is empty
+-- the greatest count of a group, 0 where it is empty; its meaning is `meanings/Evidence.Leads`
 abbrev pub orZeros : ℕ → Candidate → ℕ
 orZeros m c = max m (c .zeros)
 
 unfoldable pub mostOf : List Candidate → ℕ
 mostOf l = fold orZeros 0 l
 
--- the values of bv of a group, in its order
+-- the values of bv of a group, in its order; its meaning is `meanings/BvTable.group-lists`
 abbrev pub andBv : Bvs → Candidate → Bvs
 andBv t c = withBv t (c .bv)
 

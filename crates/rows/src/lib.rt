@@ -1,7 +1,7 @@
 // The rows of a plain page: document 01, "A row runs from a kept live offset to the next greater one", with the answers of the parse and 16.
 // It carries over slotted.rs's SlottedPage::rows().
 //
-// It departs from the Rust in shape: rows are read from the directory's far end, with no sorting: one by its number, or all of them into a
+// It departs from the original in shape: rows are read from the directory's far end, with no sorting: one by its number, or all of them into a
 // table.
 mod spans;
 mod starts;

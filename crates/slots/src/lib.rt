@@ -2,7 +2,7 @@
 // scan_from and prelude_candidates, and verify.rs's trailer_row_count_matches.
 //
 // Every function takes bytes and the bv to take off each, 0 for a plain page: a candidate bv is tested with no plaintext copy.
-// The scan departs from the Rust's, which starts anew at each of 768 positions: it goes once from the limit down to 0.
+// The scan departs from the original's, which starts anew at each of 768 positions: it goes once from the limit down to 0.
 mod counts;
 mod preludes;
 mod scans;

@@ -1,7 +1,7 @@
 // The parse of a plain page's slot directory: document 01, "Slots and rows", with the answers 1 and 8 to 12. It carries over slotted.rs's
 // SlottedPage::parse and unconfirmed.
 //
-// It departs from the Rust in shape: the slots and the warnings stand in fixed tables, and what the parse decides is settled in small values
+// It departs from the original in shape: the slots and the warnings stand in fixed tables, and what the parse decides is settled in small values
 // before a table is made, so that who asks for rows makes none.
 mod directories;
 mod verdicts;

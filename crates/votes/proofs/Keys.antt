@@ -16,6 +16,7 @@ use Rattle.lists.proofs.Picks.{flag-le}
 use Rattle.lists.proofs.Many.{many-none, many-ext}
 use Rattle.lists.proofs.Greatest.{greatest-none, greatest-more, greatest-above, greatest-below}
 use Rattle.lists.proofs.Least.{least-is}
+use Rattle.sector.specs.Fit.{topPlace}
 use Rattle.votes.specs.Votes.{beats, topOf}
 use Rattle.votes.specs.CountTables.{keyOf}
 use Rattle.votes.proofs.Tests.{lt-cases, same-ltb, below, below-yes, below-no, below-le, below-both}
@@ -152,7 +153,7 @@ module _ (counts : List ℕ) where
 
   -- the greatest key is the top's
   pub top-met : (P : Type 0) → ((k : ℕ) → k < 256 → keyAt counts k ≡ greatest (keyAt counts) 256 → topOf counts ≡ k → P) → P
-  unfolding topOf
+  unfolding topOf topPlace
   top-met P f = greatest-met (keyAt counts) P 256 (omega arith) (λ k h q. f k h q (here k h q))
     where
       here :

@@ -7,8 +7,9 @@ use lib.Dec.{eqb, ltb, leb}
 use lib.ListN.{length, getD, set, replicate}
 use Rattle.lists.specs.Cases.{pick}
 use Rattle.lists.specs.Bytes.{byteAt, plainOf}
-use Rattle.lists.specs.Counts.{count, howMany, greatest, least, allSame, isIn}
+use Rattle.lists.specs.Counts.{count, howMany, allSame, isIn}
 use Rattle.lists.specs.Pieces.{each, among, fold}
+use Rattle.sector.specs.Fit.{topPlace}
 use Rattle.summary.specs.Page.{part}
 use Rattle.slots.specs.Slots.{rowCountMatches}
 use Rattle.votes.specs.declared.Candidate.{Candidate}
@@ -30,7 +31,7 @@ beats counts w v = pick (eqb (byteAt counts w) (byteAt counts v)) (ltb w v) (ltb
 
 -- "Top is the commonest"
 unfoldable pub topOf : List ℕ → ℕ
-topOf counts = least (λ v. eqb (byteAt counts v) (greatest (byteAt counts) 256)) 256
+topOf counts = topPlace (byteAt counts) 256
 
 -- "the four commonest values that occur (all, if fewer do), equal counts in ascending order": fewer than four values beat it
 unfoldable pub isCommon : List ℕ → ℕ → Bool
@@ -70,6 +71,7 @@ unfoldable pub withCandidate : Candidates → Candidate → Candidates
 withCandidate t c =
     pick (leb 9 (t .len)) t (record { items = pick (leb 8 (t .len)) (t .items) (set (t .items) (t .len) c); len = t .len + 1 })
 
+-- its meaning is CandidateTable.tabled-listed: the first eight, in their order
 unfoldable pub tabled : List Candidate → Candidates
 tabled l = fold withCandidate noCandidates l
 

@@ -1,5 +1,5 @@
 // What speaks for each value of bv: the votes of exact sectors, the counts of the shifted bytes, the row-count test, anchors. Document 01,
-// "Choosing bv"; `assess` of the Rust's ap.rs. It counts bytes in four tables at once, since a count that follows itself waits for the store
+// "Choosing bv"; `assess` of the original's ap.rs. It counts bytes in four tables at once, since a count that follows itself waits for the store
 // before it, and finds the four commonest values in one pass. No plaintext is made to test a candidate.
 mod commonest;
 mod counts;

@@ -45,7 +45,7 @@ pub(crate) fn candidates(
     found
 }
 
-// Voted for, or one of the four commonest values that occur (the Rust's HISTOGRAM_CANDIDATES).
+// Voted for, or one of the four commonest values that occur (the original's HISTOGRAM_CANDIDATES).
 fn is_candidate(zeros: u16, votes: u16, v: u8, fourth: u32) -> bool
     ensures { λ r. ⌜ r ≡ (ltb 0 votes || (ltb 0 zeros && leb fourth (keyOf zeros v))) ⌝ }
 {
