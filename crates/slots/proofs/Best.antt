@@ -11,18 +11,11 @@ use lib.Dec.{leb}
 use borrow.Author.Tests.{leb-true, leb-false}
 use Rattle.lists.specs.Cases.{pick}
 use Rattle.slots.specs.Slots.{scanFrom, stronger, noScan, bestScan, directoryOf, scannedDirectory}
+use Rattle.slots.specs.Best.{More, Not-more, Best}
 use Rattle.slots.specs.declared.scans.Scan.{Scan}
 use Rattle.slots.specs.declared.scans.Found.{Found}
 use Rattle.slots.specs.declared.scans.Found.the-variants.{Directory, Nothing}
-use Rattle.slots.proofs.Scanned.{More, Not-more, decide, strong-more, strong-not}
-
--- d is the scan from one of the starts below n; no start has more, and every earlier one has less
-pub record Best (lim : ℕ) (p : List ℕ) (n : ℕ) (d : Scan) : Type 0 where
-  pub from : ℕ
-  pub below : from < n
-  pub is-scan : d ≡ scanFrom lim p from
-  pub none-better : (s : ℕ) → s < n → Not-more d (scanFrom lim p s)
-  pub earlier-worse : (s : ℕ) → s < from → More (scanFrom lim p s) d
+use Rattle.slots.proofs.Scanned.{decide, strong-more, strong-not}
 
 more-not : (b c x : Scan) → More b c → Not-more b x → Not-more c x
 more-not b c x (inl h) (inl k) = inl (omega arith)

@@ -8,4 +8,5 @@ pub mod RowCounts
 pub mod Fields
 pub mod Pages
 pub mod Best
+pub mod Broken
 pub mod Starts

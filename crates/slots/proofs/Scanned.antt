@@ -11,6 +11,7 @@ use lib.Dec.{ltb, eqb}
 use borrow.Author.Tests.{eq-eqb, ne-eqb, lt-ltb, le-ltb, le-leb, lt-leb, ltb-true, ltb-false, eqb-true, eqb-false}
 use Rattle.lists.specs.Bytes.{pairAt}
 use Rattle.slots.specs.Slots.{isOffset, arrayStart, scanFrom, stronger, noScan, bestScan, directoryOf, scannedDirectory}
+use Rattle.slots.specs.Best.{More, Not-more}
 use Rattle.slots.specs.declared.scans.Scan.{Scan}
 use Rattle.slots.specs.declared.scans.Found.the-variants.{Directory, Nothing}
 
@@ -51,13 +52,7 @@ module _ (b c : Scan) where
   unfolding stronger
   less-slots h e l = rw (le-ltb (b .live) (c .live) h, eq-eqb (b .live) (c .live) e, le-ltb (b .slots) (c .slots) l) refl
 
--- c has more than b: more live slots, or as many and more slots
-abbrev pub More : Scan → Scan → Type 0
-More b c = (b .live < c .live) ⊎ ((b .live ≡ c .live) × (b .slots < c .slots))
-
-abbrev pub Not-more : Scan → Scan → Type 0
-Not-more b c = (c .live < b .live) ⊎ ((b .live ≡ c .live) × (c .slots ≤ b .slots))
-
+-- which of two has more
 pub decide : (b c : Scan) → More b c ⊎ Not-more b c
 decide b c = go (ltb (b .live) (c .live)) refl (eqb (b .live) (c .live)) refl (ltb (b .slots) (c .slots)) refl
   where

@@ -15,10 +15,11 @@ use Rattle.lists.proofs.Picks.{pick-le}
 use Rattle.lists.specs.Bytes.{pairAt}
 use Rattle.slots.specs.Slots.{isOffset, wordsFrom, falling, opening, slotsAt, ontoTrimmed, trim, liveOf, arrayStart, scanAt, scanFrom, stronger, noScan, directoryOf, scannedDirectory}
 use Rattle.slots.specs.Sweep.{noTail, extendedBy, extended, tailOf, emptyScan, tailScan, strongerKept}
+use Rattle.slots.specs.Best.{More, Not-more}
 use Rattle.slots.specs.declared.scans.Scan.{Scan}
 use Rattle.slots.specs.declared.scans.Tail.{Tail}
 use Rattle.slots.proofs.Words.{words-step, words-here, words-end, words-fit, offset-low, offset-high, offset-pos}
-use Rattle.slots.proofs.Scanned.{start-near, start-live, start-skips, start-stays, More, Not-more, decide, strong-more, strong-not, strong-empty, bestFrom, from-none, from-more, from-start}
+use Rattle.slots.proofs.Scanned.{start-near, start-live, start-skips, start-stays, decide, strong-more, strong-not, strong-empty, bestFrom, from-none, from-more, from-start}
 
 -- the tail after one more pair, by the tests in their order
 module _ (w : ℕ) (t : Tail) where

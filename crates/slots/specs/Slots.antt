@@ -79,7 +79,7 @@ stronger b c = pick (ltb (b .live) (c .live) || (eqb (b .live) (c .live) && ltb 
 abbrev pub noScan : Scan
 noScan = record { start = 0; slots = 0; live = 0 }
 
--- the best of the scans from 0, .., n - 1
+-- the best of the scans from 0, .., n - 1. What it means: `Best.scanned-best`, `Best.scanned-nothing`
 unfoldable pub bestScan : ℕ → List ℕ → ℕ → Scan
 bestScan lim plain zero = noScan
 bestScan lim plain (suc n) = stronger (bestScan lim plain n) (scanFrom lim plain n)
@@ -146,7 +146,7 @@ gapNoted plain n field gap seen =
 unfoldable pub fieldNoted : List ℕ → ℕ → ℕ → Prelude → Prelude
 fieldNoted plain n field seen = pick (eqb (pairAt plain field) n) (gapNoted plain n field 6 (gapNoted plain n field 4 seen)) seen
 
--- "fields ascend": what the fields 0, .., lim - 1 show
+-- "fields ascend": what the fields 0, .., lim - 1 show. What it means: `Starts.prelude-tells`
 unfoldable pub preludeOf : ℕ → List ℕ → ℕ → Prelude
 preludeOf zero plain n = Missing
 preludeOf (suc f) plain n = fieldNoted plain n f (preludeOf f plain n)

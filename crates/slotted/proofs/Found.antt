@@ -14,6 +14,7 @@ use Rattle.lists.specs.Pieces.{each}
 use Rattle.lists.proofs.Booleans.{and-left, and-right}
 use Rattle.lists.proofs.Each.{each-length, each-ext}
 use Rattle.slots.specs.Slots.{isOffset, wordsFrom, falling, opening, slotsAt, ontoTrimmed, trim, liveOf, arrayStart, scanFrom, scannedDirectory, dataEnd, declaredSlots, runOf, whole, preludeOf}
+use Rattle.slots.specs.Starts.{Place, Tells}
 use Rattle.slots.specs.declared.scans.Scan.{Scan}
 use Rattle.slots.specs.declared.scans.Found.the-variants as scan
 use Rattle.slots.specs.declared.preludes.Prelude.the-variants as prelude
@@ -21,7 +22,7 @@ use Rattle.slots.proofs.Words.{words-step, words-end, offset-low, offset-high}
 use Rattle.slots.proofs.Runs.{slots-few}
 use Rattle.slots.proofs.Limits.{scanned-past}
 use Rattle.slots.proofs.Best.{scanned-best}
-use Rattle.slots.proofs.Starts.{Fits, Tells, prelude-tells}
+use Rattle.slots.proofs.Starts.{prelude-tells}
 use Rattle.slotted.specs.Directory.{slotsOf, Falls, Sound}
 
 -- strictly falling
@@ -219,4 +220,4 @@ filled plain n s w =
 
 pub prelude-sound : (lim : ℕ) (plain : List ℕ) (n s : ℕ) → preludeOf lim plain n ≡ prelude.One s → Sound plain s n
 unfolding Tells
-prelude-sound lim plain n s q = let t : Tells (Fits lim plain n) (prelude.One s) = subst (Tells (Fits lim plain n)) q (prelude-tells lim plain n) in filled plain n s (t .0 .fills)
+prelude-sound lim plain n s q = let t : Tells (Place lim plain n) plain n (prelude.One s) = subst (Tells (Place lim plain n) plain n) q (prelude-tells lim plain n) in filled plain n s (t .0 .fills)

@@ -1,0 +1,110 @@
+-- An array of slots that breaks off: how it begins, and the pair that fails. Assumes nothing.
+use Prim.Native.Nat.{ℕ, zero, suc, _+_, _-_, _*_, _≤_, _<_, min}
+use mathlib.Core.Path.{_≡_, refl, sym, ap, subst, _∙_}
+use mathlib.Core.List.{List, [], _∷_}
+use mathlib.Core.Logic.{_⊎_, inl, inr}
+use mathlib.Core.Bool.{Bool, true, false, _&&_}
+use native.Mathlib.Omega.{arith}
+use native.Mathlib.Nat.{not-suc-le-zero}
+use lib.ListN.{length, getD}
+use lib.Dec.{ltb, leb, eqb}
+use borrow.Author.Tests.{eqb-false, ltb-false, leb-true, leb-false}
+use Rattle.lists.specs.Cases.{pick}
+use Rattle.lists.specs.Bytes.{pairAt}
+use Rattle.slots.specs.Slots.{isOffset, wordsFrom, falling, opening, slotsAt, liveOf, dataEnd, declaredSlots}
+use Rattle.slots.specs.Starts.{lastLive, Breaks, Fails}
+use Rattle.slots.proofs.Words.{words-step, offset-pos}
+use Rattle.slots.proofs.Runs.{slots-few}
+
+-- no more live slots than slots
+pub live-few : (l : List ℕ) → liveOf l ≤ length l
+unfolding liveOf
+live-few [] = omega arith
+live-few (zero ∷ l) = let h : liveOf l ≤ length l = live-few l in omega arith
+live-few (suc x ∷ l) = let h : liveOf l ≤ length l = live-few l in omega arith
+
+last-live : (prev w : ℕ) (l : List ℕ) → (w ≡ 0 → ⊥) → lastLive w l ≡ lastLive prev (w ∷ l)
+unfolding lastLive
+last-live prev zero l n = absurd (n refl)
+last-live prev (suc x) l n = refl
+
+-- w is no slot behind one of value prev
+abbrev Ends : ℕ → ℕ → Type 0
+Ends prev w = (w ≡ 0 → ⊥) × ((isOffset w ≡ false) ⊎ (prev ≤ w))
+
+-- the pair behind a run of slots
+falling-ends : (prev : ℕ) (ws : List ℕ) → length (falling prev ws) < length ws → Ends (lastLive prev (falling prev ws)) (getD ws (length (falling prev ws)) 0)
+unfolding falling lastLive
+falling-ends prev [] h = absurd (not-suc-le-zero h)
+falling-ends prev (w ∷ ws) h = go (eqb w 0) refl (isOffset w) refl (ltb w prev) refl (λ k. falling-ends prev ws k) (λ k. falling-ends w ws k) h
+  where
+    go : (b : Bool) → eqb w 0 ≡ b → (o : Bool) → isOffset w ≡ o → (d : Bool) → ltb w prev ≡ d → (length (falling prev ws) < length ws → Ends (lastLive prev (falling prev ws)) (getD ws (length (falling prev ws)) 0)) → (length (falling w ws) < length ws → Ends (lastLive w (falling w ws)) (getD ws (length (falling w ws)) 0)) → length (pick b (0 ∷ falling prev ws) (pick (o && d) (w ∷ falling w ws) [])) < suc (length ws) → Ends (lastLive prev (pick b (0 ∷ falling prev ws) (pick (o && d) (w ∷ falling w ws) []))) (getD (w ∷ ws) (length (pick b (0 ∷ falling prev ws) (pick (o && d) (w ∷ falling w ws) []))) 0)
+    go true qb o qo d qd same next h = same (omega arith)
+    go false qb true qo true qd same next h =
+        subst (λ (k : ℕ). Ends k (getD ws (length (falling w ws)) 0)) (last-live prev w (falling w ws) (offset-pos w qo)) (next (omega arith))
+    go false qb true qo false qd same next h = (eqb-false w 0 qb, inr (ltb-false w prev qd))
+    go false qb false qo d qd same next h = (eqb-false w 0 qb, inl qo)
+
+opening-ends : (ws : List ℕ) → 0 < length (opening ws) → length (opening ws) < length ws → Ends (lastLive 0xFF0 (opening ws)) (getD ws (length (opening ws)) 0)
+unfolding opening
+opening-ends [] pos h = absurd (not-suc-le-zero h)
+opening-ends (w ∷ ws) pos h = go (isOffset w) refl pos h
+  where
+    go : (b : Bool) → isOffset w ≡ b → 0 < length (pick b (w ∷ falling w ws) []) → length (pick b (w ∷ falling w ws) []) < suc (length ws) → Ends (lastLive 0xFF0 (pick b (w ∷ falling w ws) [])) (getD (w ∷ ws) (length (pick b (w ∷ falling w ws) [])) 0)
+    go true q pos h = subst (λ (k : ℕ). Ends k (getD ws (length (falling w ws)) 0)) (last-live 0xFF0 w (falling w ws) (offset-pos w q)) (falling-ends w ws (omega arith))
+    go false q pos h = absurd (not-suc-le-zero pos)
+
+opening-begins : (ws : List ℕ) → 0 < length (opening ws) → isOffset (getD ws 0 0) ≡ true
+unfolding opening
+opening-begins [] pos = absurd (not-suc-le-zero pos)
+opening-begins (w ∷ ws) pos = go (isOffset w) refl pos
+  where
+    go : (b : Bool) → isOffset w ≡ b → 0 < length (pick b (w ∷ falling w ws) []) → isOffset w ≡ true
+    go true q pos = q
+    go false q pos = absurd (not-suc-le-zero pos)
+
+-- the pairs from a position on, by their places
+words-at : (lim : ℕ) (p : List ℕ) (k at : ℕ) → lim ≤ length p → at + 2 * k + 1 < lim → (k < length (wordsFrom lim p at)) × (getD (wordsFrom lim p at) k 0 ≡ pairAt p (at + 2 * k))
+words-at lim p zero at le h =
+    let e : wordsFrom lim p at ≡ pairAt p at ∷ wordsFrom lim p (at + 2) = words-step lim p at le (omega arith) in
+    let z : at ≡ at + 2 * 0 = omega arith in
+    rw e (omega arith, ap (pairAt p) z)
+words-at lim p (suc k) at le h =
+    let e : wordsFrom lim p at ≡ pairAt p at ∷ wordsFrom lim p (at + 2) = words-step lim p at le (omega arith) in
+    let ih = words-at lim p k (at + 2) le (omega arith) in
+    let z : at + 2 + 2 * k ≡ at + 2 * suc k = omega arith in
+    rw e (omega (arith, ih .0), ih .1 ∙ ap (pairAt p) z)
+
+-- the slots of a prelude
+module _ (p : List ℕ) (n start : ℕ) where
+  abbrev many : ℕ
+  many = length (declaredSlots p n start)
+
+  abbrev end : ℕ
+  end = min (start + 2 * n) (dataEnd p)
+
+  pub declared-breaks : 4 ≤ liveOf (declaredSlots p n start) → many < n → Breaks p n start many (start + 2 * many)
+  unfolding declaredSlots slotsAt
+  declared-breaks live few = record { begins = begins; counts = refl; few = few; live = live; stops = refl; fails = go (leb (dataEnd p) (start + 2 * many + 1)) refl }
+    where
+      ws : List ℕ
+      ws = wordsFrom end p start
+
+      pos : 0 < many
+      pos = omega (arith, live, live-few (declaredSlots p n start))
+
+      fit : 2 * many ≤ end - start
+      fit = slots-few end p start
+
+      begins : isOffset (pairAt p start) ≡ true
+      begins =
+          let here = words-at end p 0 start (omega arith) (omega (arith, pos, fit)) in
+          let z : start + 2 * 0 ≡ start = omega arith in
+          ap isOffset (ap (pairAt p) (sym z) ∙ sym (here .1)) ∙ opening-begins ws pos
+
+      go : (b : Bool) → leb (dataEnd p) (start + 2 * many + 1) ≡ b → Fails p (declaredSlots p n start) (start + 2 * many)
+      go true q = inl (leb-true (dataEnd p) (start + 2 * many + 1) q)
+      go false q =
+          let l : start + 2 * many + 1 < dataEnd p = leb-false (dataEnd p) (start + 2 * many + 1) q in
+          let here = words-at end p many start (omega arith) (omega (arith, l, few)) in
+          inr (subst (Ends (lastLive 0xFF0 (declaredSlots p n start))) (here .1) (opening-ends ws pos (here .0)))
