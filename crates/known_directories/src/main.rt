@@ -1,5 +1,6 @@
-// Pages whose answers are known: document 01's page with four rows, and one for each of the answers 1, 8 to 12 and 16, strictly and
-// leniently. What they must give was written down by the original, from the same pages (compare/driver/src/bin/known.rs).
+// Pages whose answers are known: document 01's page with four rows, one for each of the answers 1, 8 to 12 and 16, and those that settle
+// points of docs/DECISIONS.md, strictly and leniently. What they must give was written down by the original, from the same pages
+// (compare/driver/src/bin/known.rs).
 use answers::Answer;
 use answers::Options;
 use answers::ParseWarnings;
@@ -124,12 +125,39 @@ fn both(name: &[u8], plain: &[u8]) {
     show(name, plain, 2);
 }
 
-fn matches(plain: &[u8], t: u8) {
-    if slots::page_row_count_matches(plain, t) {
+fn yes(b: bool) {
+    if b {
         text(b" yes");
     } else {
         text(b" no");
     }
+}
+
+fn matches(plain: &[u8], t: u8) {
+    yes(slots::page_row_count_matches(plain, t));
+}
+
+// What the record of a row holds: where it starts, how long its part is, and its exact mark.
+struct RowRecord {
+    offset: usize,
+    length: usize,
+    exact: bool,
+}
+
+fn record_of(plain: &[u8], options: Options, r: usize) -> RowRecord {
+    let row = rows::row_at(plain, options, r);
+    RowRecord {
+        offset: row.offset,
+        length: row.bytes.len(),
+        exact: row.exact,
+    }
+}
+
+fn show_record(plain: &[u8], r: usize) {
+    let record = record_of(plain, Options::strict(), r);
+    number(record.offset as u64);
+    number(record.length as u64);
+    yes(record.exact);
 }
 
 fn four_rows() {
@@ -144,6 +172,11 @@ fn four_rows() {
     text(b"row count at T 5 and 6");
     matches(&page, 5);
     matches(&page, 6);
+    text(b"\nits records");
+    show_record(&page, 0);
+    show_record(&page, 1);
+    show_record(&page, 2);
+    show_record(&page, 3);
     text(b"\n");
 }
 
@@ -195,6 +228,59 @@ fn truncated() {
     put(&mut page, 0x4C, 0x00, 0x0B);
     put(&mut page, 0x4E, 0xFF, 0xFF);
     both(b"truncated", &page);
+}
+
+fn truncated_with_a_zero() {
+    let mut page = io::buffer();
+    put(&mut page, 0xFF0, 8, 0);
+    put(&mut page, 0x40, 0x08, 0x00);
+    put(&mut page, 0x44, 0x00, 0x0F);
+    put(&mut page, 0x46, 0x00, 0x0E);
+    put(&mut page, 0x4A, 0x00, 0x0D);
+    put(&mut page, 0x4C, 0x00, 0x0C);
+    put(&mut page, 0x4E, 0x00, 0x0F);
+    both(b"truncated, a zero counted", &page);
+}
+
+fn two_truncated() {
+    let mut page = io::buffer();
+    put(&mut page, 0xFF0, 6, 0);
+    put(&mut page, 0x40, 0x06, 0x00);
+    put(&mut page, 0x44, 0x00, 0x0F);
+    put(&mut page, 0x46, 0x00, 0x0E);
+    put(&mut page, 0x48, 0x00, 0x0D);
+    put(&mut page, 0x4A, 0x00, 0x0C);
+    put(&mut page, 0x4C, 0xFF, 0xFF);
+    put(&mut page, 0x100, 0x06, 0x00);
+    put(&mut page, 0x104, 0x00, 0x0F);
+    put(&mut page, 0x106, 0x00, 0x0E);
+    put(&mut page, 0x108, 0x00, 0x0D);
+    put(&mut page, 0x10A, 0x00, 0x0C);
+    put(&mut page, 0x10C, 0xFF, 0xFF);
+    both(b"two truncated alike", &page);
+}
+
+fn first_slot_no_offset() {
+    let mut page = io::buffer();
+    put(&mut page, 0xFF0, 4, 0);
+    put(&mut page, 0x40, 0x04, 0x00);
+    put(&mut page, 0x44, 0xF0, 0x0F);
+    put(&mut page, 0x46, 0x00, 0x0F);
+    put(&mut page, 0x48, 0x00, 0x0E);
+    put(&mut page, 0x4A, 0x00, 0x0D);
+    both(b"first slot 0xFF0", &page);
+}
+
+// 40 slots from 0x303 on, all but four of them zero.
+fn slots_past_the_limit() {
+    let mut page = io::buffer();
+    put(&mut page, 0xFF0, 40, 0);
+    put(&mut page, 0x2FF, 40, 0x00);
+    put(&mut page, 0x303, 0x00, 0x0F);
+    put(&mut page, 0x305, 0x00, 0x0E);
+    put(&mut page, 0x307, 0x00, 0x0D);
+    put(&mut page, 0x309, 0x00, 0x0C);
+    both(b"field 0x2FF", &page);
 }
 
 fn two_preludes() {
@@ -261,6 +347,31 @@ fn scanned_inside() {
     both(b"scanned, offsets inside", &page);
 }
 
+// From 0 the scan's array is at 2; from 1 it is at 1, and as good.
+fn earliest_scan() {
+    let mut page = io::buffer();
+    put(&mut page, 0x02, 0x0F, 0x0E);
+    put(&mut page, 0x04, 0x0D, 0x0C);
+    put(&mut page, 0x06, 0x0B, 0x0A);
+    put(&mut page, 0x08, 0x09, 0x08);
+    both(b"earliest scan", &page);
+}
+
+fn earliest_scan_counted() {
+    let mut page = io::buffer();
+    put(&mut page, 0xFF0, 4, 0);
+    put(&mut page, 0x20, 0x04, 0x00);
+    put(&mut page, 0x22, 0x07, 0x01);
+    put(&mut page, 0x26, 0x0F, 0x0E);
+    put(&mut page, 0x28, 0x0D, 0x0C);
+    put(&mut page, 0x2A, 0x0B, 0x0A);
+    put(&mut page, 0x2C, 0x09, 0x08);
+    both(b"earliest scan, counted", &page);
+    text(b"row count at T 4");
+    matches(&page, 4);
+    text(b"\n");
+}
+
 fn empty() {
     let mut page = io::buffer();
     both(b"empty", &page);
@@ -298,11 +409,17 @@ fn main() {
     eight_live();
     no_prelude();
     truncated();
+    truncated_with_a_zero();
+    two_truncated();
+    first_slot_no_offset();
+    slots_past_the_limit();
     two_preludes();
     few_two_preludes();
     offsets_inside();
     offsets_at_the_ends();
     scanned_inside();
+    earliest_scan();
+    earliest_scan_counted();
     empty();
     short();
     inputs();
