@@ -76,8 +76,8 @@ def row_count_matches(data, count, t):
     return any(found[2] >= back + 2 and data[found[2] - back] == count and data[found[2] - back + 1] == 0 for back in (6, 4))
 
 
-# "Choosing bv": an answer, or what was chosen with the number of warnings
-def choose(shifted, anchors, count, t, lenient):
+# "Choosing bv": counts, votes, top and candidates
+def assess(shifted):
     values = [v for part in shifted for v in part]
     counts = [values.count(v) for v in range(256)]
     votes = [0] * 256
@@ -85,7 +85,13 @@ def choose(shifted, anchors, count, t, lenient):
         if len(set(part)) == 1:
             votes[part[0]] += 1
     ranked = sorted((v for v in range(256) if counts[v]), key=lambda v: (-counts[v], v))
-    top, candidates = ranked[0], sorted(set(ranked[:4]) | {v for v in range(256) if votes[v]})
+    return counts, votes, ranked[0], sorted(set(ranked[:4]) | {v for v in range(256) if votes[v]})
+
+
+# an answer, or what was chosen with the number of warnings
+def choose(shifted, anchors, count, t, lenient):
+    values = [v for part in shifted for v in part]
+    counts, votes, top, candidates = assess(shifted)
     if len(candidates) > 8:
         return 15
     verified = {v for v in candidates if count != 0 and row_count_matches([(x - v) % 256 for x in values], count, t)}
@@ -164,9 +170,9 @@ def frame(page, stored, options=0, t=4, anchors=b""):
     return (page.to_bytes(8, "big") + bytes([options, t, len(anchors)]) + bytes(anchors) + bytes(stored)).hex().encode()
 
 
-def rows():
+def rows(count=5):
     plain = [0] * DATA
-    plain[0x40:0x42] = 5, 0
+    plain[0x40:0x42] = count, 0
     for i, v in enumerate((0xF00, 0xE00, 0xD00, 0xC80, 0xC00)):
         plain[0x44 + 2 * i:0x46 + 2 * i] = v & 255, v >> 8
     return plain
@@ -188,10 +194,13 @@ def lines():
     yield frame(77, sealed(hidden(77, zero, 0x5A, steps)))               # eight exact sectors that agree
     yield frame(last, sealed(hidden(last, rows(), 0xC3, steps), (5, 0, 0x45, 0) + 8 * (0,)))   # a row count that matches
     yield frame(9, sealed(hidden(9, rows(), 0xC3, steps), (5, 0, 0x65, 0) + 8 * (0,)), 0, 6)   # and one below T
+    yield frame(10, sealed(hidden(10, rows(0), 0xC3, steps)), 0, 0)      # row count 0, before the slots too, at T 0: no candidate is verified
     yield frame(300, sealed(hidden(300, noise, 0xE1, steps)), 0, 4, b"\x01\xe1")               # no vote: unverified
     yield frame(300, sealed(hidden(300, noise, 0xE1, steps)), KEYSTREAM, 4, b"\x01\xe1")
     yield frame(42, sealed(hidden(42, one, 0x17, steps)), 0, 4, b"\x17")                       # one vote, anchored: corroborated
     yield frame(42, sealed(hidden(42, one, 0x17, steps)), 0, 4, bytes(range(255)))             # 255 anchors: others stand against it
+    strangers = set(range(256)) - set(assess(scan(42, hidden(42, one, 0x17, steps))[1])[3])
+    yield frame(42, sealed(hidden(42, one, 0x17, steps)), 0, 4, bytes(strangers | {0x17}))     # anchors that are no candidates never matter
     yield frame(6, sealed(full), KEYSTREAM)                              # eight sectors in doubt
     yield frame(8, sealed(hidden(8, zero, 1, steps))[:-1] + b"\x00")     # a bad CRC
     yield frame(8, sealed(hidden(8, zero, 1, steps), (0, 0, 0x45, 9) + 8 * (0,)))              # a bad trailer

@@ -1,11 +1,18 @@
 // Document 01's page 1: zero data, type 0x45, a good CRC. Read strictly it is answered 5, with the candidates 248 to 255: each sector is
-// exact and votes for another value. The expected line is the document's.
+// exact and votes for another value. The expected line is the document's. Then a supplied bv with row count 0, at T 0 and at T 1: the original
+// has T 4 alone, so these lines follow from document 01 by hand.
 use answers::Options;
 use libc::STDOUT_FILENO;
 ghost use mathlib.Core.Path.{_≡_};
 ghost use lib.ListN.{length};
 
 fn main() {
+    ambiguous();
+    supplied(0);
+    supplied(1);
+}
+
+fn ambiguous() {
     let mut page = room();
     page[0xFF2] = 0x45;
     seal(&mut page);
@@ -25,6 +32,26 @@ fn main() {
     number(bvs[5]);
     number(bvs[6]);
     number(bvs[7]);
+    io::write_all(STDOUT_FILENO, b"\n");
+}
+
+// Page 1 at bv 255, whose sector 0 is stored as it reads: slots at 0x50, and the row count 0, that of the trailer, six bytes before. At T 0 the row-count
+// test verifies it (accepted, supplied, verified). At T 1 nothing does, since no sector votes for 255 (6, no source, no confidence).
+fn supplied(t: u8) {
+    let mut page = room();
+    put(&mut page, 0x51, 0x0F);
+    put(&mut page, 0x53, 0x0E);
+    put(&mut page, 0x55, 0x0D);
+    put(&mut page, 0x57, 0x0C);
+    let mut out = room();
+    let d = decode::decode_with_bv(1, 255, &page, Options::new(0, t), &mut out);
+    let choice = d.choice;
+    let answer = choice.answer;
+    let source = choice.source;
+    let confidence = choice.confidence;
+    number(answer.number());
+    number(source.number());
+    number(confidence.number());
     io::write_all(STDOUT_FILENO, b"\n");
 }
 
