@@ -177,11 +177,13 @@ fn whole_page(case: &Case, frozen: &mut Frozen) {
     let shows = decoding_shows(case, &answer);
     frozen.take(about(Asked::Decoding, case, page), Expected { line: decoding_line(&answer, 4096), shows });
     let answer = Err(refused(2, 4095));
-    let shows = decoding_shows(case, &answer);
+    let shows = vec![format!("{} of an all-zero page: {}", number(&answer), page.iter().all(|&b| b == 0))];
     frozen.take(Question { room: 4095, ..about(Asked::Decoding, case, page) }, Expected { line: decoding_line(&answer, 4095), shows });
 
     let answer = reading.decode_supplied(case.bv, case.bits);
-    let shows = decoding_shows(case, &answer);
+    let mut shows = decoding_shows(case, &answer);
+    let doubtful = fits.iter().any(|f| !f.exact && (f.peak < 24 || f.peak < f.runner_up + 12));
+    shows.push(format!("{}, a sector in doubt: {doubtful}", number(&answer)));
     frozen.take(about(Asked::Supplied, case, page), Expected { line: decoding_line(&answer, 4096), shows });
 
     for (sector, bytes) in &case.replacements {
@@ -203,9 +205,19 @@ fn decoding_shows(case: &Case, answer: &Result<Decoded, Refusal>) -> Vec<String>
         out.push(format!("residue {}", case.number % 16));
         out.push(format!("source {} confidence {}", d.source, d.confidence));
         out.push(format!("evidence {:?}", d.evidence.iter().map(|e| e.0).collect::<Vec<_>>()));
+        out.extend(d.evidence.iter().filter_map(|e| telling(d, e)));
         out.extend(warned(&d.warnings));
     }
     out
+}
+
+/// Votes against the bv that is taken; no other candidate to be ahead of.
+fn telling(d: &Decoded, &(number, first, second): &(u8, u16, u16)) -> Option<String> {
+    match number {
+        2 if second > 0 => Some(format!("dissent, confidence {}", d.confidence)),
+        4 if first == second => Some("one candidate".into()),
+        _ => None,
+    }
 }
 
 fn warned(warnings: &[Warning]) -> impl Iterator<Item = String> {
