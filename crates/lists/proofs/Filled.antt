@@ -4,11 +4,11 @@ use mathlib.Core.Path.{_≡_, sym, ap, ap₂, _∙_}
 use mathlib.Core.List.{List, [], _∷_, _++_, append-nil}
 use native.Mathlib.Numerals.{add-one}
 use native.Mathlib.Omega.{arith}
-use lib.ListN.{length, getD, set, take, drop, length-take, length-drop, drop-of-length-le}
+use lib.ListN.{length, getD, set, take, drop, length-drop, drop-of-length-le}
 use lib.Seq.{take-suc, take-suc-set, take-all, take-at, length-take-le}
 use Rattle.lists.specs.Pieces.{each, over}
 use Rattle.lists.proofs.Each.{each-length, each-more}
-use Rattle.lists.proofs.Over.{over-length, over-none, over-push}
+use Rattle.lists.proofs.Over.{over-none, over-push}
 
 -- ---- the first i places hold what they should
 
@@ -32,9 +32,6 @@ module _ {A : Type 0} (l src : List A) (a : ℕ) where
   fill-more d i h k =
       let n : length (take i src) ≡ i = length-take-le i src (omega arith) in
       over-push l a (take i src) (a + i) (getD src i d) (omega arith) h ∙ ap (over l a) (take-more src d i k)
-
-  pub fill-length : (i : ℕ) → a + i ≤ length l → length (over l a (take i src)) ≡ length l
-  fill-length i h = over-length l (take i src) a (omega (arith, length-take i src))
 
   pub fill-all : (i : ℕ) → length src ≤ i → over l a (take i src) ≡ over l a src
   fill-all i h = ap (over l a) (take-all i src h)

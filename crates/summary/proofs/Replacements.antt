@@ -55,9 +55,6 @@ module _ (number : ℕ) (t : State) (r : Replacement) where
   unfolding after storedAfter shiftedAfter replaced
   refused a e w = let q : isAccepted answerTo ≡ false = ap isAccepted (sym w) ∙ e in rw q
 
-  pub refused-after : isAccepted answerTo ≡ false → after number t r ≡ t
-  refused-after e = refused answerTo e refl
-
   -- a replacement is taken, or changes nothing
   pub taken-or-same : Taken t r ⊎ (after number t r ≡ t)
   taken-or-same = whole (ℕ-discrete (length (t .stored)) 4096)
