@@ -36,7 +36,7 @@ use Rattle.meanings.proofs.Sources.{choice-means}
 use Rattle.verdict.specs.declared.Decoding.{Decoding}
 use Rattle.verdict.specs.Sectors.{entry, sectorWarnings}
 use Rattle.demands.specs.Demand2.{readPage}
-use Rattle.demands.specs.Accepted.{Sound, Confident, ReadAs, OneValue, Keyed, Accepts}
+use Rattle.demands.specs.Accepted.{GoodPage, Confident, ReadAs, OneValue, Keyed, Accepts}
 use Rattle.demands.proofs.StoredBytes.{summary-bytes}
 use Rattle.demands.proofs.KeyedSectors.{all-same, sector-keyed}
 use Rattle.demands.proofs.SoundPages.{page-sure, page-lenient}
@@ -91,7 +91,7 @@ module _ (number : ℕ) (stored : List ℕ) (bv : ℕ) (whole : length stored �
 
 -- ---- the page is read
 
-module _ (lim number : ℕ) (stored anchors : List ℕ) (o : Options) (bv : ℕ) (sound : Sound number stored) where
+module _ (lim number : ℕ) (stored anchors : List ℕ) (o : Options) (bv : ℕ) (sound : GoodPage number stored) where
   abbrev shifted : List ℕ
   shifted = bytesOf number stored
 

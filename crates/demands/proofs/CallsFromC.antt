@@ -37,7 +37,7 @@ use Rattle.decode.specs.Decode.{writtenOf}
 use Rattle.numbers.specs.Numbers.{littleBytes}
 use Rattle.numbers.specs.Writes.{Wrote}
 use Rattle.numbers.proofs.Kept.{kept-short, kept-room, kept-behind}
-use Rattle.fields.specs.Fields.{Field, little, bytesOf, sizeOf, layoutBytes}
+use Rattle.fields.specs.Fields.{Field, little, fieldBytes, sizeOf, layoutBytes}
 use Rattle.fields.proofs.Sizes.{fields-long, size-append}
 use Rattle.parts.specs.Parts.{answerSize, answerFields, fitsFields, warningsFields}
 use Rattle.parts.specs.Lent.{isLent, fitsIn}
@@ -49,13 +49,13 @@ use Rattle.row_layout.specs.RowLayouts.{directoryFields, slotsFields, parseFiel
 use Rattle.row_layout.specs.RowLayouts.{rowsFields, rowsSize}
 use Rattle.row_layout.proofs.Sizes.{parse-size, row-count-size, row-size, rows-size}
 use Rattle.lumeviqo.specs.Calls.{hasRoom, toldIf, ScanCall, ReplaceCall, DecodingCall}
-use Rattle.demands.specs.CallsFromC.{Tells, Keeps, CallsAnswered}
+use Rattle.demands.specs.CallsFromC.{ToldInC, Keeps, CallsAnswered}
 use Rattle.demands.proofs.Demand1.{refusals-silent}
 
 layout-append : (fs gs : List Field) → layoutBytes (fs ++ gs) ≡ layoutBytes fs ++ layoutBytes gs
 unfolding layoutBytes
 layout-append [] gs = refl
-layout-append (f ∷ fs) gs = ap (λ (l : List ℕ). bytesOf f ++ l) (layout-append fs gs) ∙ sym (append-assoc (bytesOf f) (layoutBytes fs) (layoutBytes gs))
+layout-append (f ∷ fs) gs = ap (λ (l : List ℕ). fieldBytes f ++ l) (layout-append fs gs) ∙ sym (append-assoc (fieldBytes f) (layoutBytes fs) (layoutBytes gs))
 
 number-small : (x : Answer) → numberOf x < 256
 number-small answer.Accepted = omega arith
@@ -103,10 +103,10 @@ module _ {n : ℕ} {x : Answer} {fs : List Field} (s : StartsWith n x fs) where
   number-is = ap (λ (l : List ℕ). byteAt l 0) parted ∙ first
     where
       first : byteAt (layoutBytes (answerFields x) ++ layoutBytes (s .rest)) 0 ≡ numberOf x
-      first = unfold layoutBytes answerFields bytesOf littleBytes in omega (arith, number-small x)
+      first = unfold layoutBytes answerFields fieldBytes littleBytes in omega (arith, number-small x)
 
   module _ (answer after : List ℕ) (r : ℕ) where
-    tells-lent : Wrote answer 0 bytes after r → Tells true n x answer after r
+    tells-lent : Wrote answer 0 bytes after r → ToldInC true n x answer after r
     tells-lent w =
         record {
           nothing = λ e. let k = kept-short w (omega (arith, long, leb-false n (length answer) (sym (and-true (hasRoom n answer)) ∙ e))) in (k .1, k .0);
@@ -124,7 +124,7 @@ module _ {n : ℕ} {x : Answer} {fs : List Field} (s : StartsWith n x fs) where
         room : (hasRoom n answer && true) ≡ true → (after ≡ over answer 0 bytes) × (r ≡ 0 + length bytes)
         room e = kept-room w (omega (arith, long, leb-true n (length answer) (and-left (hasRoom n answer) true e)))
 
-    tells-unlent : Wrote answer 0 [] after r → Tells false n x answer after r
+    tells-unlent : Wrote answer 0 [] after r → ToldInC false n x answer after r
     tells-unlent w =
         record {
           nothing = λ e. (k .1, same);
@@ -143,7 +143,7 @@ module _ {n : ℕ} {x : Answer} {fs : List Field} (s : StartsWith n x fs) where
         never : {P : Type 0} → (hasRoom n answer && false) ≡ true → P
         never e = absurd (never-both refl (and-right (hasRoom n answer) false e))
 
-    tells : (lent : Bool) → Wrote answer 0 (toldIf lent bytes) after r → Tells lent n x answer after r
+    tells : (lent : Bool) → Wrote answer 0 (toldIf lent bytes) after r → ToldInC lent n x answer after r
     tells true w = tells-lent w
     tells false w = tells-unlent w
 
@@ -216,7 +216,7 @@ scan-told :
     (number : ℕ) (stored shifted shiftedAtExit answer answerAtExit : List ℕ) (r : ℕ)
     → ScanCall number stored shifted shiftedAtExit answer answerAtExit r
     → let x : Answer = pageScanOf number stored (length shifted) .answer in
-    Tells true scanSize x answer answerAtExit r × Keeps true scanSize x answer shifted shiftedAtExit
+    ToldInC true scanSize x answer answerAtExit r × Keeps true scanSize x answer shifted shiftedAtExit
 scan-told number stored shifted shiftedAtExit answer answerAtExit r c =
     let p : PageScan = pageScanOf number stored (length shifted) in (
       tells-lent (summary-starts (p .answer) (p .fits)) answer answerAtExit r (c .told),
@@ -229,7 +229,7 @@ replacement-told :
     (number s : ℕ) (new fits stored storedAtExit shifted shiftedAtExit answer answerAtExit : List ℕ) (r : ℕ)
     → ReplaceCall number s new fits stored storedAtExit shifted shiftedAtExit answer answerAtExit r
     → let x : Answer = replaceAnswer s new (length stored) (length shifted) in
-    Tells (isLent fits) scanSize x answer answerAtExit r
+    ToldInC (isLent fits) scanSize x answer answerAtExit r
     × Keeps (isLent fits) scanSize x answer stored storedAtExit
     × Keeps (isLent fits) scanSize x answer shifted shiftedAtExit
 unfolding replaced
@@ -244,7 +244,7 @@ replacement-told number s new fits stored storedAtExit shifted shiftedAtExit ans
 decoding-told :
     (lent : Bool) (d : Decoding) (stored shifted out outAtExit answer answerAtExit : List ℕ) (r : ℕ)
     → DecodingCall lent d stored shifted out outAtExit answer answerAtExit r
-    → Tells lent decodingSize (d .choice .answer) answer answerAtExit r × Keeps lent decodingSize (d .choice .answer) answer out outAtExit
+    → ToldInC lent decodingSize (d .choice .answer) answer answerAtExit r × Keeps lent decodingSize (d .choice .answer) answer out outAtExit
 unfolding writtenOf
 decoding-told lent d stored shifted out outAtExit answer answerAtExit r c = (
   tells (decoding-starts d) answer answerAtExit r lent (c .told),

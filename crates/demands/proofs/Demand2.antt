@@ -36,12 +36,12 @@ use Rattle.meanings.proofs.Taken.{Chosen, chosen-stands}
 use Rattle.verdict.specs.declared.Decoding.{Decoding}
 use Rattle.verdict.specs.Sectors.{entry, refitOf}
 use Rattle.decode.specs.Decode.{plainPage, writtenOf}
-use Rattle.demands.specs.Demand2.{Best, Recovered, Evident, Recovers, lastOf, readPage, readWith, leftIn}
+use Rattle.demands.specs.Demand2.{BestFit, Recovered, Evident, Recovers, lastOf, readPage, readWith, leftIn}
 use Rattle.demands.proofs.StoredBytes.{back-shifted, plain-byte, summary-bytes, refit-fresh}
 use Rattle.demands.proofs.Masses.{last-mass}
 use Rattle.demands.proofs.Shapes.{Whole, decoding-whole, supplied-whole}
 
-best-fit : (offset : ℕ) (l : List ℕ) → Best offset l (fitOf offset l)
+best-fit : (offset : ℕ) (l : List ℕ) → BestFit offset l (fitOf offset l)
 unfolding sectorOf
 best-fit offset l =
     let here : modalAt offset l (fitOf offset l .step) ≡ fitOf offset l .peak = fit-here offset l in
@@ -122,7 +122,7 @@ module _
               ∙ length-append (plainOf bv shifted) (drop 4080 stored)
               ∙ omega (arith, plain-long, length-drop 4080 stored, long);
           fits = fits-are;
-          best = λ s h. subst (Best (offsetOf number s) (part s stored)) (sym (fit-is s h)) (best-fit (offsetOf number s) (part s stored));
+          best = λ s h. subst (BestFit (offsetOf number s) (part s stored)) (sym (fit-is s h)) (best-fit (offsetOf number s) (part s stored));
         }
 
 module _

@@ -28,7 +28,7 @@ use Rattle.verdict.specs.Verdict.{warningNoted, settledOf, integrityRefuses, in
 use Rattle.verdict.proofs.DecisionCases.{sectors-sure, settled-taken, settled-lenient, verdict-settled}
 use Rattle.decode.specs.Decode.{lengthsAnswer, lengthsChecked, decodingOf}
 use Rattle.demands.specs.Demand2.{readPage}
-use Rattle.demands.specs.Accepted.{Sound, Confident}
+use Rattle.demands.specs.Accepted.{GoodPage, Confident}
 use Rattle.demands.proofs.StoredBytes.{refit-fresh}
 
 -- ---- confident sectors refuse nothing, and give no warning
@@ -59,7 +59,7 @@ module _ (number : ℕ) (fits : List Fit) (sure : Confident fits) where
 
 -- ---- the page
 
-module _ (lim number : ℕ) (stored anchors : List ℕ) (o : Options) (sound : Sound number stored) where
+module _ (lim number : ℕ) (stored anchors : List ℕ) (o : Options) (sound : GoodPage number stored) where
   abbrev c : Choice
   c = choiceOf lim number (bytesOf number stored) anchors (rowCount stored) o
 

@@ -27,7 +27,7 @@ use Rattle.verdict.specs.Sectors.{entry, sectorWarnings}
 use Rattle.demands.specs.Demand2.{readPage}
 
 -- a page that was written, whose CRC is right and whose reserved bytes are zero, where that counts
-pub record Sound (number : ℕ) (stored : List ℕ) : Type 0 where
+pub record GoodPage (number : ℕ) (stored : List ℕ) : Type 0 where
   pub whole : length stored ≡ 4096
   pub written : isUnallocated stored ≡ false
   pub intact : isAccepted (integrityOf number stored) ≡ true
@@ -65,14 +65,14 @@ pub record Accepts : Type 0 where
   -- eight exact sectors with one value, and row count 0: calibrated, whatever the anchors and the options
   pub exact :
       (lim number : ℕ) (stored anchors : List ℕ) (o : Options) (bv : ℕ)
-      → Sound number stored
+      → GoodPage number stored
       → rowCount stored ≡ 0
       → OneValue number stored bv
       → ReadAs (readPage lim number stored anchors o 4096) bv source.ExactSectors confidence.Calibrated noWarnings
   -- a verified candidate without a rival, where no other is verified and every sector is confident
   pub verified :
       (lim number : ℕ) (stored anchors : List ℕ) (o : Options) (bv : ℕ)
-      → Sound number stored
+      → GoodPage number stored
       → Confident (fitsOf number stored)
       → candidateNumber (bytesOf number stored) ≤ 8
       → SoleVerified lim (bytesOf number stored) anchors (rowCount stored) (o .«min_trailer_count») bv
@@ -80,7 +80,7 @@ pub record Accepts : Type 0 where
   -- the same under KEYSTREAM, with a warning for each sector that is not confident
   pub let-through :
       (lim number : ℕ) (stored anchors : List ℕ) (o : Options) (bv : ℕ)
-      → Sound number stored
+      → GoodPage number stored
       → keystream o ≡ true
       → candidateNumber (bytesOf number stored) ≤ 8
       → SoleVerified lim (bytesOf number stored) anchors (rowCount stored) (o .«min_trailer_count») bv

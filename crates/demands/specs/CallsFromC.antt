@@ -27,7 +27,7 @@ use Rattle.row_layout.specs.RowLayouts.{parseSize, rowCountSize, rowSize, rowsS
 use Rattle.lumeviqo.specs.Calls.{hasRoom, ScanCall, ReplaceCall, DecodingCall, parseTold, rowCountTold, rowTold, rowsTold}
 
 -- a layout of n bytes that starts with the answer x, in the buffer `answer`, and what is returned; `lent` says whether the fits are 48 bytes
-pub record Tells (lent : Bool) (n : ℕ) (x : Answer) (answer answerAtExit : List ℕ) (r : ℕ) : Type 0 where
+pub record ToldInC (lent : Bool) (n : ℕ) (x : Answer) (answer answerAtExit : List ℕ) (r : ℕ) : Type 0 where
   pub nothing : (hasRoom n answer && lent) ≡ false → (r ≡ 0) × (answerAtExit ≡ answer)
   pub all : (hasRoom n answer && lent) ≡ true → r ≡ n
   pub number : (hasRoom n answer && lent) ≡ true → byteAt answerAtExit 0 ≡ numberOf x
@@ -43,50 +43,50 @@ pub record CallsAnswered : Type 0 where
   pub trailer :
       (stored answer answerAtExit : List ℕ) (r : ℕ)
       → Wrote answer 0 (trailerBytes (trailerAnswer stored)) answerAtExit r
-      → Tells true trailerSize (trailerAnswer stored .answer) answer answerAtExit r
+      → ToldInC true trailerSize (trailerAnswer stored .answer) answer answerAtExit r
   pub integrity :
       (number : ℕ) (stored answer answerAtExit : List ℕ) (r : ℕ)
       → Wrote answer 0 (integrityBytes (integrityOf number stored)) answerAtExit r
-      → Tells true answerSize (integrityOf number stored) answer answerAtExit r
+      → ToldInC true answerSize (integrityOf number stored) answer answerAtExit r
   pub superblock :
       (stored answer answerAtExit : List ℕ) (r : ℕ)
       → Wrote answer 0 (superblockBytes (superblockAnswer stored)) answerAtExit r
-      → Tells true superblockSize (superblockAnswer stored .answer) answer answerAtExit r
+      → ToldInC true superblockSize (superblockAnswer stored .answer) answer answerAtExit r
   pub checked :
       (stored answer answerAtExit : List ℕ) (r : ℕ)
       → Wrote answer 0 (superblockBytes (checkedSuperblock stored)) answerAtExit r
-      → Tells true superblockSize (checkedSuperblock stored .answer) answer answerAtExit r
+      → ToldInC true superblockSize (checkedSuperblock stored .answer) answer answerAtExit r
   pub scan :
       (number : ℕ) (stored shifted shiftedAtExit answer answerAtExit : List ℕ) (r : ℕ)
       → ScanCall number stored shifted shiftedAtExit answer answerAtExit r
       → let x : Answer = pageScanOf number stored (length shifted) .answer in
-      Tells true scanSize x answer answerAtExit r × Keeps true scanSize x answer shifted shiftedAtExit
+      ToldInC true scanSize x answer answerAtExit r × Keeps true scanSize x answer shifted shiftedAtExit
   pub replacement :
       (number s : ℕ) (new fits stored storedAtExit shifted shiftedAtExit answer answerAtExit : List ℕ) (r : ℕ)
       → ReplaceCall number s new fits stored storedAtExit shifted shiftedAtExit answer answerAtExit r
       → let x : Answer = replaceAnswer s new (length stored) (length shifted) in
-      Tells (isLent fits) scanSize x answer answerAtExit r
+      ToldInC (isLent fits) scanSize x answer answerAtExit r
       × Keeps (isLent fits) scanSize x answer stored storedAtExit
       × Keeps (isLent fits) scanSize x answer shifted shiftedAtExit
   -- all four, by the decoding that each asks for
   pub decoding :
       (lent : Bool) (d : Decoding) (stored shifted out outAtExit answer answerAtExit : List ℕ) (r : ℕ)
       → DecodingCall lent d stored shifted out outAtExit answer answerAtExit r
-      → Tells lent decodingSize (d .choice .answer) answer answerAtExit r
+      → ToldInC lent decodingSize (d .choice .answer) answer answerAtExit r
       × Keeps lent decodingSize (d .choice .answer) answer out outAtExit
   pub parse :
       (number : ℕ) (plain : List ℕ) (leniency : ℕ) (answer answerAtExit : List ℕ) (r : ℕ)
       → Wrote answer 0 (parseTold number plain leniency) answerAtExit r
-      → Tells true parseSize (parsedOf searchLimit number plain (hasDirectory leniency) .answer) answer answerAtExit r
+      → ToldInC true parseSize (parsedOf searchLimit number plain (hasDirectory leniency) .answer) answer answerAtExit r
   pub row-count :
       (number : ℕ) (plain : List ℕ) (leniency : ℕ) (answer answerAtExit : List ℕ) (r : ℕ)
       → Wrote answer 0 (rowCountTold number plain leniency) answerAtExit r
-      → Tells true rowCountSize (parsedOf searchLimit number plain (hasDirectory leniency) .answer) answer answerAtExit r
+      → ToldInC true rowCountSize (parsedOf searchLimit number plain (hasDirectory leniency) .answer) answer answerAtExit r
   pub row :
       (number : ℕ) (plain : List ℕ) (leniency k : ℕ) (answer answerAtExit : List ℕ) (r : ℕ)
       → Wrote answer 0 (rowTold number plain leniency k) answerAtExit r
-      → Tells true rowSize (rowAnswerOf searchLimit number plain (hasDirectory leniency) k) answer answerAtExit r
+      → ToldInC true rowSize (rowAnswerOf searchLimit number plain (hasDirectory leniency) k) answer answerAtExit r
   pub rows :
       (number : ℕ) (plain : List ℕ) (leniency : ℕ) (answer answerAtExit : List ℕ) (r : ℕ)
       → Wrote answer 0 (rowsTold number plain leniency) answerAtExit r
-      → Tells true rowsSize (startsOf searchLimit number plain (hasDirectory leniency) .answer) answer answerAtExit r
+      → ToldInC true rowsSize (startsOf searchLimit number plain (hasDirectory leniency) .answer) answer answerAtExit r

@@ -42,7 +42,7 @@ leftIn out number stored d = writtenOf d stored (bytesOf number stored) out
 
 -- the fit of sector bytes l at an offset: its step is the smallest of those with the largest modal count, its peak is that count, its
 -- runner-up the second of the 256 counts, sorted; it is exact where the shifted bytes are all equal
-pub record Best (offset : ℕ) (l : List ℕ) (f : Fit) : Type 0 where
+pub record BestFit (offset : ℕ) (l : List ℕ) (f : Fit) : Type 0 where
   pub byte : f .step < 256
   pub most : (k : ℕ) → k < 256 → modalAt offset l k ≤ modalAt offset l (f .step)
   pub first : (k : ℕ) → k < f .step → modalAt offset l k < modalAt offset l (f .step)
@@ -61,7 +61,7 @@ pub record Recovered (number : ℕ) (stored : List ℕ) (d : Decoding) (written 
   pub trailer : drop 4080 written ≡ drop 4080 stored
   pub whole : length written ≡ 4096
   pub fits : d .fits ≡ fitsOf number stored
-  pub best : (s : ℕ) → s < 8 → Best (offsetOf number s) (part s stored) (entry (d .fits) s)
+  pub best : (s : ℕ) → s < 8 → BestFit (offsetOf number s) (part s stored) (entry (d .fits) s)
 
 -- the last piece of evidence of a table
 abbrev pub lastOf : Grounds → Evidence

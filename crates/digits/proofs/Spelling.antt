@@ -13,7 +13,7 @@ use Rattle.lists.specs.Pieces.{each, over}
 use Rattle.lists.proofs.Picks.{pick-case, pick-le, pick-gt}
 use Rattle.lists.proofs.Each.{each-length, each-at, each-ext}
 use Rattle.lists.proofs.Filled.{front-more}
-use Rattle.digits.specs.Digits.{digitOf, valueAt, valuesOf, worstOf, spelledAt, spelled, lowerDigit, hexed, hexedNumber, hexedInto, valuePair, pairedInto}
+use Rattle.digits.specs.Digits.{digitOf, valueAt, digitValues, worstOf, spelledAt, spelled, lowerDigit, hexed, hexedNumber, hexedInto, valuePair, pairedInto}
 use Rattle.digits.proofs.Values.{worst-above, worst-below, lower-back}
 
 module _ (line : List ℕ) where
@@ -25,27 +25,27 @@ module _ (line : List ℕ) where
   unfolding spelled
   spelled-at k h = each-at (spelledAt line) (length line / 2) k 0 h
 
-  pub values-length : length (valuesOf line) ≡ length line
-  unfolding valuesOf
+  pub values-length : length (digitValues line) ≡ length line
+  unfolding digitValues
   values-length = each-length (valueAt line) (length line)
 
-  pub values-at : (k : ℕ) → k < length line → byteAt (valuesOf line) k ≡ valueAt line k
-  unfolding valuesOf
+  pub values-at : (k : ℕ) → k < length line → byteAt (digitValues line) k ≡ valueAt line k
+  unfolding digitValues
   values-at k h = each-at (valueAt line) (length line) k 0 h
 
   -- the values of digits make the bytes that the digits spell
-  pub pair-spells : worstOf line < 16 → (k : ℕ) → k < length line / 2 → valuePair (valuesOf line) k ≡ spelledAt line k
+  pub pair-spells : worstOf line < 16 → (k : ℕ) → k < length line / 2 → valuePair (digitValues line) k ≡ spelledAt line k
   pair-spells w k h =
       let a : valueAt line (k + k) < 16 = worst-above line (k + k) w (omega arith) in
       let b : valueAt line (k + k + 1) < 16 = worst-above line (k + k + 1) w (omega arith) in
       ap₂ (λ (x y : ℕ). (x * 16 + y) % 256) (values-at (k + k) (omega arith)) (values-at (k + k + 1) (omega arith)) ∙ omega arith
 
-  pub pairs-spell : worstOf line < 16 → (bytes : List ℕ) → length line / 2 ≤ length bytes → pairedInto (valuesOf line) bytes ≡ over bytes 0 (spelled line)
+  pub pairs-spell : worstOf line < 16 → (bytes : List ℕ) → length line / 2 ≤ length bytes → pairedInto (digitValues line) bytes ≡ over bytes 0 (spelled line)
   unfolding spelled pairedInto
   pairs-spell w bytes h =
       rw (values-length)
-      (sym (pick-le (over bytes 0 (each (valuePair (valuesOf line)) (length line / 2))) bytes (length line / 2) (length bytes) h)
-      ∙ ap (over bytes 0) (each-ext (valuePair (valuesOf line)) (spelledAt line) (length line / 2) (pair-spells w)))
+      (sym (pick-le (over bytes 0 (each (valuePair (digitValues line)) (length line / 2))) bytes (length line / 2) (length bytes) h)
+      ∙ ap (over bytes 0) (each-ext (valuePair (digitValues line)) (spelledAt line) (length line / 2) (pair-spells w)))
 
 pub pairs-no : (values bytes : List ℕ) → length bytes < length values / 2 → bytes ≡ pairedInto values bytes
 unfolding pairedInto

@@ -13,7 +13,7 @@ use Rattle.lists.specs.Pieces.{over}
 use Rattle.lists.proofs.Picks.{pick-case, pick-le, pick-gt}
 use Rattle.lists.proofs.Booleans.{and-yes, and-not-both}
 use Rattle.lists.proofs.Greatest.{greatest-above, greatest-below}
-use Rattle.digits.specs.Digits.{isFrom, digitOf, valueAt, worstOf, worstIn, valuesOf, valuesInto, lowerDigit}
+use Rattle.digits.specs.Digits.{isFrom, digitOf, valueAt, worstOf, worstIn, digitValues, valuesInto, lowerDigit}
 
 from-yes : (a z c : ℕ) → a ≤ c → c ≤ z → isFrom a z c ≡ true
 from-yes a z c h k = and-yes (leb a c) (leb c z) (le-leb a c h) (le-leb c z k)
@@ -81,6 +81,6 @@ module _ (line values : List ℕ) where
   unfolding worstIn valuesInto
   values-no h = (pick-gt _ _ _ _ h, pick-gt _ _ _ _ h)
 
-  pub values-yes : length line ≤ length values → (worstOf line ≡ worstIn (length values) line) × (over values 0 (valuesOf line) ≡ valuesInto line values)
+  pub values-yes : length line ≤ length values → (worstOf line ≡ worstIn (length values) line) × (over values 0 (digitValues line) ≡ valuesInto line values)
   unfolding worstIn valuesInto
   values-yes h = (pick-le _ _ _ _ h, pick-le _ _ _ _ h)

@@ -21,8 +21,8 @@ digitOf c = pick (isFrom 48 57 c) (c - 48) (pick (isFrom 65 70 c) (c - 55) (pick
 abbrev pub valueAt : List ℕ → ℕ → ℕ
 valueAt line i = digitOf (byteAt line i)
 
-unfoldable pub valuesOf : List ℕ → List ℕ
-valuesOf line = each (valueAt line) (length line)
+unfoldable pub digitValues : List ℕ → List ℕ
+digitValues line = each (valueAt line) (length line)
 
 -- a line has digits alone: the greatest value is below 16
 unfoldable pub worstOf : List ℕ → ℕ
@@ -52,7 +52,7 @@ hexed (b ∷ l) = lowerDigit (b / 16) ∷ lowerDigit (b % 16) ∷ hexed l
 -- ---- what the functions leave in a buffer, and answer: all, or nothing where it does not fit
 
 unfoldable pub valuesInto : List ℕ → List ℕ → List ℕ
-valuesInto line values = pick (leb (length line) (length values)) (over values 0 (valuesOf line)) values
+valuesInto line values = pick (leb (length line) (length values)) (over values 0 (digitValues line)) values
 
 unfoldable pub worstIn : ℕ → List ℕ → ℕ
 worstIn room line = pick (leb (length line) room) (worstOf line) 16

@@ -3,7 +3,7 @@ ghost use mathlib.Core.Path.{_≡_};
 ghost use Prim.Native.Nat.{_+_, _*_, _/_, _%_, _≤_};
 ghost use lib.ListN.{length};
 ghost use Rattle.lists.specs.Pieces.{each, over};
-ghost use Rattle.digits.specs.Digits.{digitOf, worstOf, worstIn, valuesOf, valuesInto, valuePair, pairedInto};
+ghost use Rattle.digits.specs.Digits.{digitOf, worstOf, worstIn, digitValues, valuesInto, valuePair, pairedInto};
 
 // The value of a digit in either case, or 16. Ranges are tested by a wrapping difference, which compiles to no branch.
 pub fn digit_value(c: u8) -> u8
@@ -38,7 +38,7 @@ pub fn digit_values(line: &[u8], values: &mut [u8]) -> u8
 fn put_values(line: &[u8], values: &mut [u8]) -> u8
     requires { ⌜ length (now line) ≤ length (now values) ⌝ }
     ensures { λ r. ⌜ r ≡ worstOf (now (line .entry)) ⌝ }
-    ensures { λ _. ⌜ now (values .exit) ≡ over (now (values .entry)) 0 (valuesOf (now (line .entry))) ⌝ }
+    ensures { λ _. ⌜ now (values .exit) ≡ over (now (values .entry)) 0 (digitValues (now (line .entry))) ⌝ }
 {
     let mut worst: u8 = 0;
     let mut i: usize = 0;

@@ -9,25 +9,25 @@ use Rattle.lists.proofs.Over.{over-length, over-none, over-then}
 use Rattle.numbers.specs.Numbers.{littleBytes}
 use Rattle.numbers.specs.Writes.{written, past, Wrote}
 use Rattle.numbers.proofs.Stored.{written-fit, past-fit, written-long, wrote-not, wrote-over, wrote-same}
-use Rattle.fields.specs.Fields.{Field, little, widthOf, bytesOf, sizeOf, layoutBytes, puts, placeAfter, Put}
+use Rattle.fields.specs.Fields.{Field, little, widthOf, fieldBytes, sizeOf, layoutBytes, puts, placeAfter, Put}
 use Rattle.fields.proofs.Sizes.{field-long, fields-long}
 
 puts-append : (l : List ℕ) (a : ℕ) (fs gs : List Field) → puts l a (fs ++ gs) ≡ puts (puts l a fs) (placeAfter l a fs) gs
 unfolding puts placeAfter
 puts-append l a [] gs = refl
-puts-append l a (f ∷ fs) gs = puts-append (written l a (bytesOf f)) (past l a (widthOf f)) fs gs
+puts-append l a (f ∷ fs) gs = puts-append (written l a (fieldBytes f)) (past l a (widthOf f)) fs gs
 
 place-append : (l : List ℕ) (a : ℕ) (fs gs : List Field) → placeAfter l a (fs ++ gs) ≡ placeAfter (puts l a fs) (placeAfter l a fs) gs
 unfolding puts placeAfter
 place-append l a [] gs = refl
-place-append l a (f ∷ fs) gs = place-append (written l a (bytesOf f)) (past l a (widthOf f)) fs gs
+place-append l a (f ∷ fs) gs = place-append (written l a (fieldBytes f)) (past l a (widthOf f)) fs gs
 
 -- no field; one field, and then others; fields, and then others
 pub put-none : {l : List ℕ} {a : ℕ} → Put l a [] l a
 unfolding puts placeAfter
 put-none = record { bytes = refl; place = refl }
 
-pub put-field : {l o after : List ℕ} {a p next : ℕ} {f : Field} {fs : List Field} → Wrote l a (bytesOf f) o p → Put o p fs after next → Put l a (f ∷ fs) after next
+pub put-field : {l o after : List ℕ} {a p next : ℕ} {f : Field} {fs : List Field} → Wrote l a (fieldBytes f) o p → Put o p fs after next → Put l a (f ∷ fs) after next
 unfolding puts placeAfter
 put-field {l} {o} {after} {a} {p} {next} {f} {fs} w r =
     let q : p ≡ past l a (widthOf f) = w .place ∙ ap (past l a) (field-long f) in
@@ -43,7 +43,7 @@ pub put-known :
     → Wrote l a (littleBytes k n) o p
     → Put o p fs after next
     → Put l a (little k m ∷ fs) after next
-unfolding bytesOf
+unfolding fieldBytes
 put-known {k = k} e w r = put-field (wrote-same (ap (littleBytes k) e) w) r
 
 pub put-then : {l o after : List ℕ} {a p next : ℕ} {fs gs : List Field} → Put l a fs o p → Put o p gs after next → Put l a (fs ++ gs) after next
@@ -57,7 +57,7 @@ puts-over : (l : List ℕ) (a : ℕ) (fs : List Field) → a + sizeOf fs ≤ len
 unfolding puts sizeOf layoutBytes
 puts-over l a [] h = sym (over-none l a)
 puts-over l a (f ∷ fs) h =
-    let b : List ℕ = bytesOf f in
+    let b : List ℕ = fieldBytes f in
     let w : length b ≡ widthOf f = field-long f in
     let n : length (over l a b) ≡ length l = over-length l b a (omega arith) in
     ap₂ (λ (v : List ℕ) (k : ℕ). puts v k fs) (written-fit l a b (omega arith)) (past-fit l a (widthOf f) (omega arith))
@@ -68,7 +68,7 @@ place-over : (l : List ℕ) (a : ℕ) (fs : List Field) → a + sizeOf fs ≤ le
 unfolding placeAfter sizeOf
 place-over l a [] h = omega arith
 place-over l a (f ∷ fs) h =
-    let b : List ℕ = bytesOf f in
+    let b : List ℕ = fieldBytes f in
     ap (λ (k : ℕ). placeAfter (written l a b) k fs) (past-fit l a (widthOf f) (omega arith))
     ∙ place-over (written l a b) (a + widthOf f) fs (omega (arith, written-long l a b))
     ∙ omega arith
@@ -77,7 +77,7 @@ place-over l a (f ∷ fs) h =
 puts-long : (l : List ℕ) (a : ℕ) (fs : List Field) → length (puts l a fs) ≡ length l
 unfolding puts
 puts-long l a [] = refl
-puts-long l a (f ∷ fs) = puts-long (written l a (bytesOf f)) (past l a (widthOf f)) fs ∙ written-long l a (bytesOf f)
+puts-long l a (f ∷ fs) = puts-long (written l a (fieldBytes f)) (past l a (widthOf f)) fs ∙ written-long l a (fieldBytes f)
 
 pub put-long : {l after : List ℕ} {a next : ℕ} {fs : List Field} → Put l a fs after next → length after ≡ length l
 put-long {l} {after} {a} {next} {fs} q = ap length (q .bytes) ∙ puts-long l a fs

@@ -6,17 +6,17 @@ use native.Mathlib.Omega.{arith}
 use lib.ListN.{length, length-append}
 use Rattle.lists.specs.Pieces.{joined}
 use Rattle.numbers.proofs.Widths.{little-long, big-long}
-use Rattle.fields.specs.Fields.{Field, little, big, widthOf, bytesOf, sizeOf, layoutBytes}
+use Rattle.fields.specs.Fields.{Field, little, big, widthOf, fieldBytes, sizeOf, layoutBytes}
 
-pub field-long : (f : Field) → length (bytesOf f) ≡ widthOf f
-unfolding bytesOf widthOf
+pub field-long : (f : Field) → length (fieldBytes f) ≡ widthOf f
+unfolding fieldBytes widthOf
 field-long (little k n) = little-long k n
 field-long (big k n) = big-long k n
 
 pub fields-long : (fs : List Field) → length (layoutBytes fs) ≡ sizeOf fs
 unfolding layoutBytes sizeOf
 fields-long [] = refl
-fields-long (f ∷ fs) = length-append (bytesOf f) (layoutBytes fs) ∙ ap₂ (λ (a b : ℕ). a + b) (field-long f) (fields-long fs)
+fields-long (f ∷ fs) = length-append (fieldBytes f) (layoutBytes fs) ∙ ap₂ (λ (a b : ℕ). a + b) (field-long f) (fields-long fs)
 
 pub size-append : (fs gs : List Field) → sizeOf (fs ++ gs) ≡ sizeOf fs + sizeOf gs
 unfolding sizeOf

@@ -14,9 +14,9 @@ unfoldable pub widthOf : Field → ℕ
 widthOf (little k n) = k
 widthOf (big k n) = k
 
-unfoldable pub bytesOf : Field → List ℕ
-bytesOf (little k n) = littleBytes k n
-bytesOf (big k n) = bigBytes k n
+unfoldable pub fieldBytes : Field → List ℕ
+fieldBytes (little k n) = littleBytes k n
+fieldBytes (big k n) = bigBytes k n
 
 -- a layout's size, and its bytes
 unfoldable pub sizeOf : List Field → ℕ
@@ -25,16 +25,16 @@ sizeOf (f ∷ fs) = widthOf f + sizeOf fs
 
 unfoldable pub layoutBytes : List Field → List ℕ
 layoutBytes [] = []
-layoutBytes (f ∷ fs) = bytesOf f ++ layoutBytes fs
+layoutBytes (f ∷ fs) = fieldBytes f ++ layoutBytes fs
 
 -- a buffer, and a place in it, after each field was put behind the one before
 unfoldable pub puts : List ℕ → ℕ → List Field → List ℕ
 puts l at [] = l
-puts l at (f ∷ fs) = puts (written l at (bytesOf f)) (past l at (widthOf f)) fs
+puts l at (f ∷ fs) = puts (written l at (fieldBytes f)) (past l at (widthOf f)) fs
 
 unfoldable pub placeAfter : List ℕ → ℕ → List Field → ℕ
 placeAfter l at [] = at
-placeAfter l at (f ∷ fs) = placeAfter (written l at (bytesOf f)) (past l at (widthOf f)) fs
+placeAfter l at (f ∷ fs) = placeAfter (written l at (fieldBytes f)) (past l at (widthOf f)) fs
 
 -- what a function that puts fields leaves in the buffer, and the place that it returns
 pub record Put (l : List ℕ) (at : ℕ) (fs : List Field) (after : List ℕ) (next : ℕ) : Type 0 where

@@ -15,7 +15,7 @@ use Rattle.lists.proofs.Booleans.{and-yes, and-not-both, and-left, and-right}
 use Rattle.lists.proofs.Fold.{fold-more}
 use Rattle.lists.proofs.Over.{front-at, front-take}
 use Rattle.numbers.specs.Numbers.{andByte, bigEndian, eightBytes}
-use Rattle.digits.specs.Digits.{valueAt, valuesOf, valuesInto, worstOf, allDigits, spelled, hexed, pairedInto}
+use Rattle.digits.specs.Digits.{valueAt, digitValues, valuesInto, worstOf, allDigits, spelled, hexed, pairedInto}
 use Rattle.digits.proofs.Values.{worst-above, values-yes}
 use Rattle.digits.proofs.Spelling.{spelled-at, spelled-length, values-length, values-at, pairs-spell, hexed-length, spelled-hexed, hexed-digits}
 use Rattle.frame.specs.Frames.{leastFrame, frameMost, anchorCount, isFrame, pageNumber, optionBits, leastCount, goodOf, frameOf, frameIn, frameBytes}
@@ -122,20 +122,20 @@ not-read line bytes h e = (answer-no line e ∙ large line (length bytes) h, byt
 
 -- the values of the line's characters, at the front of a buffer: n, and the bytes that they spell
 module _ (line room values : List ℕ) (h : length line ≤ length room) (e : values ≡ valuesInto line room) (w : worstOf line < 16) where
-  values-are : values ≡ over room 0 (valuesOf line)
+  values-are : values ≡ over room 0 (digitValues line)
   values-are = e ∙ sym (values-yes line room h .1)
 
   value-is : (k : ℕ) → k < length line → byteAt values k ≡ valueAt line k
-  value-is k b = ap (λ (l : List ℕ). byteAt l k) values-are ∙ front-at room (valuesOf line) 0 k (omega (arith, values-length line)) ∙ values-at line k b
+  value-is k b = ap (λ (l : List ℕ). byteAt l k) values-are ∙ front-at room (digitValues line) 0 k (omega (arith, values-length line)) ∙ values-at line k b
 
   pub count-of : 22 ≤ length line → (byteAt values 20 * 16 + byteAt values 21) % 256 ≡ anchorCount line
   count-of k = omega (arith, spelled-at line 10 (omega arith), value-is 20 (omega arith), value-is 21 (omega arith), worst-above line 20 w (omega arith), worst-above line 21 w (omega arith))
 
   pub pairs-of : (m : ℕ) (bytes : List ℕ) → m ≡ length line → length line / 2 ≤ length bytes → pairedInto (take m values) bytes ≡ over bytes 0 (spelled line)
   pairs-of m bytes f b =
-      let n : length (valuesOf line) ≡ length line = values-length line in
-      let all : take m values ≡ valuesOf line =
-      ap (take m) values-are ∙ front-take room (valuesOf line) m (omega arith) ∙ take-all m (valuesOf line) (omega arith) in
+      let n : length (digitValues line) ≡ length line = values-length line in
+      let all : take m values ≡ digitValues line =
+      ap (take m) values-are ∙ front-take room (digitValues line) m (omega arith) ∙ take-all m (digitValues line) (omega arith) in
       ap (λ (l : List ℕ). pairedInto l bytes) all ∙ pairs-spell line w bytes b
 
 -- from the answer back to the line

@@ -19,7 +19,7 @@ use Rattle.lists.proofs.Same.{are-at}
 use Rattle.summary.specs.Page.{sectorEnd, part}
 use Rattle.votes.specs.Votes.{countsOf, ballots, beats, isCommon, isCandidate, isVerified}
 use Rattle.votes.proofs.Meaning.{counts-at}
-use Rattle.meanings.specs.Values.{isExact, valueOf, exactSectors, standsFor}
+use Rattle.meanings.specs.Values.{isExact, exactValue, exactSectors, standsFor}
 use Rattle.meanings.specs.Sources.{candidateNumber, Agreed, Asked}
 use Rattle.meanings.proofs.Values.{ballots-at}
 use Rattle.meanings.proofs.Passing.{all-equal}
@@ -44,7 +44,7 @@ all-pass p zero h = refl
 all-pass p (suc n) h = omega (arith, all-pass p n (λ k l. h k (omega arith)), ap flag (h n (omega arith)))
 
 module _ (shifted : List ℕ) (bv : ℕ) (long : length shifted ≡ 4080) (small : bv < 256)
-    (exact : (s : ℕ) → s < 8 → (isExact shifted s ≡ true) × (valueOf shifted s ≡ bv)) where
+    (exact : (s : ℕ) → s < 8 → (isExact shifted s ≡ true) × (exactValue shifted s ≡ bv)) where
   part-length : (s : ℕ) → s < 8 → length (part s shifted) ≡ sectorEnd s - s * 512
   unfolding part
   part-length s h = length-take (sectorEnd s - s * 512) (drop (s * 512) shifted) ∙ omega (arith, length-drop (s * 512) shifted)
@@ -69,7 +69,7 @@ module _ (shifted : List ℕ) (bv : ℕ) (long : length shifted ≡ 4080) (small
   bytes : AllBytes shifted
   bytes = record { at = λ i h. omega (arith, every-byte i h) }
 
-  agree : (s : ℕ) → s < 8 → isExact shifted s ≡ true → valueOf shifted s ≡ bv
+  agree : (s : ℕ) → s < 8 → isExact shifted s ≡ true → exactValue shifted s ≡ bv
   agree s h x = exact s h .1
 
   eight : exactSectors shifted ≡ 8

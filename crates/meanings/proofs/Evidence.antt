@@ -30,7 +30,7 @@ use Rattle.choice.specs.declared.Choice.{Choice}
 use Rattle.choice.specs.Rules.{groundsOf, choiceOf}
 use Rattle.meanings.specs.Values.{votesFor, dissentFrom, zerosWith, standsFor}
 use Rattle.meanings.specs.Sources.{Other}
-use Rattle.meanings.specs.Evidence.{Tells, BestOther, Leads, Supports, Evidenced}
+use Rattle.meanings.specs.Evidence.{EvidenceTold, BestOther, LeadsBy, Supports, Evidenced}
 use Rattle.meanings.proofs.Values.{ballots-number, ballots-at, exact-parted, zeros-at}
 use Rattle.meanings.proofs.Standing.{group-values}
 use Rattle.meanings.proofs.Taken.{Chosen, chosen-stands}
@@ -88,10 +88,10 @@ module _ (p : ℕ → Bool) (f : ℕ → Candidate) where
 -- ---- the lead
 
 -- there is but one lead
-leads-alone : (shifted : List ℕ) (bv x y : ℕ) → Leads shifted bv x → Leads shifted bv y → x ≡ y
+leads-alone : (shifted : List ℕ) (bv x y : ℕ) → LeadsBy shifted bv x → LeadsBy shifted bv y → x ≡ y
 leads-alone shifted bv x y a b = omega (arith, a .lead-is, b .lead-is, below (a .best) a b refl, below (b .best) b a refl)
   where
-    below : (m : ℕ) {u w : ℕ} (c : Leads shifted bv u) (d : Leads shifted bv w) → m ≡ c .best → m ≤ d .best
+    below : (m : ℕ) {u w : ℕ} (c : LeadsBy shifted bv u) (d : LeadsBy shifted bv w) → m ≡ c .best → m ≤ d .best
     below zero c d e = omega arith
     below (suc m) c d e =
         let z : BestOther shifted bv (c .best) = c .met (omega arith) in
@@ -132,7 +132,7 @@ module _ (lim : ℕ) (shifted anchors : List ℕ) (n t bv : ℕ) (b : AllBytes s
         subst (λ (l : List Candidate). Most isOther at 256 (mostOf l)) (sym (group-values lim shifted anchors n t few (Others bv)))
         (most-among isOther at 256)
 
-    leads : Leads shifted bv (zerosWith shifted bv - best)
+    leads : LeadsBy shifted bv (zerosWith shifted bv - best)
     leads =
         record {
           best = best;
@@ -202,7 +202,7 @@ module _ (lim : ℕ) (shifted anchors : List ℕ) (n t bv : ℕ) where
       alone (evidence.ZeroMass z l) h s = absurd (omega arith)
       alone evidence.Unallocated h s = absurd s
 
-  mass-so : (lead : ℕ) → Leads shifted bv lead → Kind So (evidence.ZeroMass (zerosWith shifted bv) lead) true
+  mass-so : (lead : ℕ) → LeadsBy shifted bv lead → Kind So (evidence.ZeroMass (zerosWith shifted bv) lead) true
   unfolding Supports
   mass-so lead w = record { so = λ e. (refl, w); alone = alone }
     where
@@ -236,7 +236,7 @@ module _ (lim : ℕ) (shifted anchors : List ℕ) (n t bv : ℕ) where
   fifth-not (evidence.ZeroMass z l) h s = omega arith
   fifth-not evidence.Unallocated h s = s
 
-  told : (lead : ℕ) → Leads shifted bv lead → Tells So (allTold lead)
+  told : (lead : ℕ) → LeadsBy shifted bv lead → EvidenceTold So (allTold lead)
   told lead w =
       let none : UpTo So 0 noGrounds = up-none So nothing-so in
       let rows : UpTo So 1 rowsTold = up-next So 0 noGrounds none evidence.TrailerRowCount refl (omega arith) (isVerified lim shifted n t bv) rows-so in
@@ -265,6 +265,6 @@ evidenced =
           let t : ℕ = o .«min_trailer_count» in
           let c : Choice = choiceOf lim number shifted anchors n o in
           let w : Chosen lim shifted anchors n t c = chosen-stands lim number shifted anchors n o b good in
-          subst (Tells (Supports lim shifted anchors n t (c .bv))) (sym (w .grounds ∙ listed-told lim shifted anchors n t (c .bv) (w .byte) b))
+          subst (EvidenceTold (Supports lim shifted anchors n t (c .bv))) (sym (w .grounds ∙ listed-told lim shifted anchors n t (c .bv) (w .byte) b))
           (told lim shifted anchors n t (c .bv) _ (leads lim shifted anchors n t (c .bv) b (w .few)));
     }

@@ -13,12 +13,12 @@ use Rattle.answers.specs.declared.trust.Evidence.the-variants as evidence
 use Rattle.answers.specs.declared.trust.Ground.{Ground}
 use Rattle.answers.specs.declared.trust.Grounds.{Grounds}
 use Rattle.votes.proofs.Tests.{lt-cases}
-use Rattle.meanings.specs.Evidence.{evidenceAt, Listed, Tells}
+use Rattle.meanings.specs.Evidence.{evidenceAt, InTable, EvidenceTold}
 
 -- a table after the kinds 1 to k
 pub record UpTo (Holds : Evidence → Type 0) (k : ℕ) (g : Grounds) : Type 0 where
   pub only : (i : ℕ) → i < g .len → Holds (evidenceAt g i)
-  pub every : (e : Evidence) → evidenceNumber e ≤ k → Holds e → Listed g e
+  pub every : (e : Evidence) → evidenceNumber e ≤ k → Holds e → InTable g e
   pub order : (i j : ℕ) → i < j → j < g .len → evidenceNumber (evidenceAt g i) < evidenceNumber (evidenceAt g j)
   pub low : (i : ℕ) → i < g .len → evidenceNumber (evidenceAt g i) ≤ k
   pub blank : (i : ℕ) → g .len ≤ i → evidenceAt g i ≡ evidence.Nothing
@@ -64,7 +64,7 @@ module _ (Holds : Evidence → Type 0) where
           few = omega (arith, u .few);
         }
       where
-        go : (e : Evidence) → evidenceNumber e ≤ k + 1 → Holds e → Dec (evidenceNumber e ≡ k + 1) → Listed g e
+        go : (e : Evidence) → evidenceNumber e ≤ k + 1 → Holds e → Dec (evidenceNumber e ≡ k + 1) → InTable g e
         go e h s (yes q) = absurd (never e q s)
         go e h s (no ne) = u .every e (omega arith) s
 
@@ -108,10 +108,10 @@ module _ (Holds : Evidence → Type 0) where
           two i j q r (no ne) =
               omega (arith, ap evidenceNumber (old j ne), ap evidenceNumber (old i (λ f. omega arith)), u .order i j q (omega arith))
 
-          has : (e : Evidence) → evidenceNumber e ≤ k + 1 → Holds e → Dec (evidenceNumber e ≡ k + 1) → Listed more e
+          has : (e : Evidence) → evidenceNumber e ≤ k + 1 → Holds e → Dec (evidenceNumber e ≡ k + 1) → InTable more e
           has e q r (yes f) = record { place = g .len; within = omega arith; is = new (g .len) refl ∙ sym (alone e f r) }
           has e q r (no ne) =
-              let l : Listed g e = u .every e (omega arith) r in
+              let l : InTable g e = u .every e (omega arith) r in
               record { place = l .place; within = omega (arith, l .within); is = old (l .place) (λ f. omega (arith, l .within)) ∙ l .is }
 
     -- the next kind
@@ -123,11 +123,11 @@ module _ (Holds : Evidence → Type 0) where
     up-next h false w = up-not (λ e q s. never-both refl (w .alone e (q ∙ sym kind) s .0))
 
   -- after the last kind that may hold
-  pub up-all : (k : ℕ) (g : Grounds) → UpTo Holds k g → ((e : Evidence) → k < evidenceNumber e → Holds e → ⊥) → Tells Holds g
+  pub up-all : (k : ℕ) (g : Grounds) → UpTo Holds k g → ((e : Evidence) → k < evidenceNumber e → Holds e → ⊥) → EvidenceTold Holds g
   up-all k g u never =
       record {
         only = u .only;
-        every = λ e s. lt-cases (Listed g e) k (evidenceNumber e) (λ h. absurd (never e h s)) (λ h. u .every e h s);
+        every = λ e s. lt-cases (InTable g e) k (evidenceNumber e) (λ h. absurd (never e h s)) (λ h. u .every e h s);
         order = u .order;
         blank = u .blank;
         room = u .room;

@@ -29,8 +29,8 @@ use Rattle.choice.specs.Rules.{refusedOf}
 use Rattle.choice.specs.Supplied.{suppliedWith, suppliedBy, suppliedOf}
 use Rattle.choice.proofs.ChoiceCases.{suppliedGrounds, supplied-length, supplied-verified, supplied-calibrated, supplied-lenient, supplied-refused}
 use Rattle.meanings.specs.Values.{votesFor, dissentFrom}
-use Rattle.meanings.specs.Evidence.{Tells}
-use Rattle.meanings.specs.Supplied.{Calibrates, passes, Backs, Unbacked, TakenAs, RefusedAs, Meaning, Said, Made, SuppliedMeans}
+use Rattle.meanings.specs.Evidence.{EvidenceTold}
+use Rattle.meanings.specs.Supplied.{Calibrates, passes, Backs, Unbacked, TakenAs, RefusedAs, SuppliedMeaning, SuppliedSaid, SuppliedMade, SuppliedMeans}
 use Rattle.meanings.proofs.Values.{ballots-number, ballots-count, exact-parted}
 use Rattle.meanings.proofs.EvidenceTable.{UpTo, Kind, up-none, up-next, up-all}
 
@@ -91,7 +91,7 @@ module _ (lim bv : ℕ) (shifted : List ℕ) (n t : ℕ) where
       alone (evidence.ZeroMass z l) h s = absurd s
       alone evidence.Unallocated h s = absurd s
 
-  told : Tells So (suppliedGrounds votes dissent matches)
+  told : EvidenceTold So (suppliedGrounds votes dissent matches)
   told =
       let none : UpTo So 0 noGrounds = up-none So nothing-so in
       let first : Grounds = groundIf matches noGrounds evidence.TrailerRowCount in
@@ -156,20 +156,20 @@ module _ (lim number bv : ℕ) (shifted : List ℕ) (n : ℕ) (o : Options) wher
   unbacked p q = record { unpassed = p; uncalibrated = calibrates-not q }
 
   module _ (h : length shifted ≡ 4080) where
-    judged : (x : Bool) → m ≡ x → (y : Bool) → agreed ≡ y → (z : Bool) → l ≡ z → Meaning lim number bv shifted n o s
-    judged true p y q z r = Meaning.verified h p (taken-as confidence.Verified warning.Nothing (by-words h ∙ supplied-verified number l bv v d m p))
+    judged : (x : Bool) → m ≡ x → (y : Bool) → agreed ≡ y → (z : Bool) → l ≡ z → SuppliedMeaning lim number bv shifted n o s
+    judged true p y q z r = SuppliedMeaning.verified h p (taken-as confidence.Verified warning.Nothing (by-words h ∙ supplied-verified number l bv v d m p))
     judged false p true q z r =
-        Meaning.calibrated h p (calibrates q) (taken-as confidence.Calibrated warning.Nothing (by-words h ∙ supplied-calibrated number l bv v d m p q))
+        SuppliedMeaning.calibrated h p (calibrates q) (taken-as confidence.Calibrated warning.Nothing (by-words h ∙ supplied-calibrated number l bv v d m p q))
     judged false p false q true r =
-        Meaning.unverified h (unbacked p q) r
+        SuppliedMeaning.unverified h (unbacked p q) r
         (taken-as confidence.Unverified (warning.UnverifiedKeystream bv) (by-words h ∙ supplied-lenient number l bv v d m p q r))
     judged false p false q false r =
-        Meaning.refused h (unbacked p q) r
+        SuppliedMeaning.refused h (unbacked p q) r
         (refused-as (answer.KeystreamUnverified number bv) (by-words h ∙ supplied-refused number l bv v d m p q r))
 
-  means : Dec (length shifted ≡ 4080) → Meaning lim number bv shifted n o s
+  means : Dec (length shifted ≡ 4080) → SuppliedMeaning lim number bv shifted n o s
   means (yes h) = judged h m refl agreed refl l refl
-  means (no ne) = Meaning.wrong-length ne (refused-as (answer.WrongBufferLength (length shifted)) (supplied-length lim number bv shifted n o ne))
+  means (no ne) = SuppliedMeaning.wrong-length ne (refused-as (answer.WrongBufferLength (length shifted)) (supplied-length lim number bv shifted n o ne))
 
   -- ---- what the marks say
 
@@ -179,8 +179,8 @@ module _ (lim number bv : ℕ) (shifted : List ℕ) (n : ℕ) (o : Options) wher
   answers-apart : {P : Type 0} {x : Answer} {k : ℕ} → s .answer ≡ x → numberOf (s .answer) ≡ k → eqb (numberOf x) k ≡ false → P
   answers-apart {x = x} {k = k} e f h = absurd (never-both h (eq-eqb (numberOf x) k (ap numberOf (sym e) ∙ f)))
 
-  said-by : Meaning lim number bv shifted n o s → Said lim number bv shifted n o s
-  said-by (Meaning.verified h p w) =
+  said-by : SuppliedMeaning lim number bv shifted n o s → SuppliedSaid lim number bv shifted n o s
+  said-by (SuppliedMeaning.verified h p w) =
       record {
         verified = λ e. p;
         calibrated = λ e. trusted-apart (w .trusted) e refl;
@@ -188,7 +188,7 @@ module _ (lim number bv : ℕ) (shifted : List ℕ) (n : ℕ) (o : Options) wher
         refused = λ e. answers-apart (w .answered) e refl;
         wrong-length = λ e. answers-apart (w .answered) e refl;
       }
-  said-by (Meaning.calibrated h p c w) =
+  said-by (SuppliedMeaning.calibrated h p c w) =
       record {
         verified = λ e. trusted-apart (w .trusted) e refl;
         calibrated = λ e. (p, c);
@@ -196,7 +196,7 @@ module _ (lim number bv : ℕ) (shifted : List ℕ) (n : ℕ) (o : Options) wher
         refused = λ e. answers-apart (w .answered) e refl;
         wrong-length = λ e. answers-apart (w .answered) e refl;
       }
-  said-by (Meaning.unverified h u r w) =
+  said-by (SuppliedMeaning.unverified h u r w) =
       record {
         verified = λ e. trusted-apart (w .trusted) e refl;
         calibrated = λ e. trusted-apart (w .trusted) e refl;
@@ -204,7 +204,7 @@ module _ (lim number bv : ℕ) (shifted : List ℕ) (n : ℕ) (o : Options) wher
         refused = λ e. answers-apart (w .answered) e refl;
         wrong-length = λ e. answers-apart (w .answered) e refl;
       }
-  said-by (Meaning.refused h u r w) =
+  said-by (SuppliedMeaning.refused h u r w) =
       record {
         verified = λ e. trusted-apart (w .trusted) e refl;
         calibrated = λ e. trusted-apart (w .trusted) e refl;
@@ -212,7 +212,7 @@ module _ (lim number bv : ℕ) (shifted : List ℕ) (n : ℕ) (o : Options) wher
         refused = λ e. (u, r);
         wrong-length = λ e. answers-apart (w .answered) e refl;
       }
-  said-by (Meaning.wrong-length ne w) =
+  said-by (SuppliedMeaning.wrong-length ne w) =
       record {
         verified = λ e. trusted-apart (w .trusted) e refl;
         calibrated = λ e. trusted-apart (w .trusted) e refl;
@@ -223,8 +223,8 @@ module _ (lim number bv : ℕ) (shifted : List ℕ) (n : ℕ) (o : Options) wher
 
   -- ---- what the page makes of it
 
-  made-by : Meaning lim number bv shifted n o s → Made lim number bv shifted n o s
-  made-by (Meaning.verified h p w) =
+  made-by : SuppliedMeaning lim number bv shifted n o s → SuppliedMade lim number bv shifted n o s
+  made-by (SuppliedMeaning.verified h p w) =
       record {
         verified = λ i q. w;
         calibrated = λ i q c. absurd (never-both q p);
@@ -232,7 +232,7 @@ module _ (lim number bv : ℕ) (shifted : List ℕ) (n : ℕ) (o : Options) wher
         refused = λ i u r. absurd (never-both (u .unpassed) p);
         wrong-length = λ ne. absurd (ne h);
       }
-  made-by (Meaning.calibrated h p c w) =
+  made-by (SuppliedMeaning.calibrated h p c w) =
       record {
         verified = λ i q. absurd (never-both p q);
         calibrated = λ i q b. w;
@@ -240,7 +240,7 @@ module _ (lim number bv : ℕ) (shifted : List ℕ) (n : ℕ) (o : Options) wher
         refused = λ i u r. absurd (u .uncalibrated c);
         wrong-length = λ ne. absurd (ne h);
       }
-  made-by (Meaning.unverified h u r w) =
+  made-by (SuppliedMeaning.unverified h u r w) =
       record {
         verified = λ i q. absurd (never-both (u .unpassed) q);
         calibrated = λ i q c. absurd (u .uncalibrated c);
@@ -248,7 +248,7 @@ module _ (lim number bv : ℕ) (shifted : List ℕ) (n : ℕ) (o : Options) wher
         refused = λ i b q. absurd (never-both q r);
         wrong-length = λ ne. absurd (ne h);
       }
-  made-by (Meaning.refused h u r w) =
+  made-by (SuppliedMeaning.refused h u r w) =
       record {
         verified = λ i q. absurd (never-both (u .unpassed) q);
         calibrated = λ i q c. absurd (u .uncalibrated c);
@@ -256,7 +256,7 @@ module _ (lim number bv : ℕ) (shifted : List ℕ) (n : ℕ) (o : Options) wher
         refused = λ i b q. w;
         wrong-length = λ ne. absurd (ne h);
       }
-  made-by (Meaning.wrong-length ne w) =
+  made-by (SuppliedMeaning.wrong-length ne w) =
       record {
         verified = λ i q. absurd (ne i);
         calibrated = λ i q c. absurd (ne i);
@@ -265,7 +265,7 @@ module _ (lim number bv : ℕ) (shifted : List ℕ) (n : ℕ) (o : Options) wher
         wrong-length = λ no-more. w;
       }
 
-  supplied-meaning : Meaning lim number bv shifted n o s
+  supplied-meaning : SuppliedMeaning lim number bv shifted n o s
   supplied-meaning = means (ℕ-discrete (length shifted) 4080)
 
 pub supplied-means : SuppliedMeans

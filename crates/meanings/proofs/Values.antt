@@ -17,7 +17,7 @@ use Rattle.lists.proofs.Among.{among-length}
 use Rattle.lists.proofs.Count.{count-none, count-append}
 use Rattle.votes.specs.Votes.{countsOf, ballots}
 use Rattle.votes.proofs.Meaning.{counts-at}
-use Rattle.meanings.specs.Values.{isExact, valueOf, exactSectors, votesFor, dissentFrom, zerosWith}
+use Rattle.meanings.specs.Values.{isExact, exactValue, exactSectors, votesFor, dissentFrom, zerosWith}
 
 eqb-swap : (a b : ℕ) → eqb a b ≡ eqb b a
 eqb-swap a b = go (ℕ-discrete a b)
@@ -53,12 +53,12 @@ module _ (p : ℕ → Bool) where
 module _ (shifted : List ℕ) where
   pub ballots-number : length (ballots shifted) ≡ exactSectors shifted
   unfolding ballots exactSectors
-  ballots-number = among-length (isExact shifted) (valueOf shifted) 8
+  ballots-number = among-length (isExact shifted) (exactValue shifted) 8
 
   module _ (v : ℕ) where
     pub ballots-count : count v (ballots shifted) ≡ votesFor shifted v
     unfolding ballots votesFor
-    ballots-count = count-among (isExact shifted) (valueOf shifted) v 8
+    ballots-count = count-among (isExact shifted) (exactValue shifted) v 8
 
     pub ballots-at : v < 256 → byteAt (countsOf (ballots shifted)) v ≡ votesFor shifted v
     ballots-at h = counts-at (ballots shifted) v h ∙ ballots-count
@@ -66,7 +66,7 @@ module _ (shifted : List ℕ) where
     -- an exact sector votes for v, or dissents
     pub exact-parted : exactSectors shifted ≡ votesFor shifted v + dissentFrom shifted v
     unfolding exactSectors votesFor dissentFrom
-    exact-parted = many-parted (isExact shifted) (λ s. eqb (valueOf shifted s) v) 8
+    exact-parted = many-parted (isExact shifted) (λ s. eqb (exactValue shifted s) v) 8
 
     -- the data bytes that are zero when written with v are the shifted bytes that are v
     pub zeros-at : v < 256 → AllBytes shifted → byteAt (countsOf shifted) v ≡ zerosWith shifted v

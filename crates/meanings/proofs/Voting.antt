@@ -11,7 +11,7 @@ use Rattle.lists.specs.Bytes.{byteAt, AllBytes}
 use Rattle.lists.proofs.Booleans.{not-true, and-yes, and-left, and-right}
 use Rattle.lists.proofs.Many.{many-ext}
 use Rattle.votes.specs.Votes.{countsOf, ballots, isCommon, isCandidate}
-use Rattle.meanings.specs.Values.{isExact, valueOf, exactSectors, votesFor, dissentFrom, standsFor}
+use Rattle.meanings.specs.Values.{isExact, exactValue, exactSectors, votesFor, dissentFrom, standsFor}
 use Rattle.meanings.proofs.Values.{ballots-at, exact-parted}
 use Rattle.meanings.proofs.Passing.{some-pass, all-fail, wider-pass}
 
@@ -21,14 +21,14 @@ module _ (shifted : List ℕ) where
   voted-stands v h k =
       ap (λ (b : Bool). b || isCommon (countsOf shifted) v) (lt-ltb 0 (byteAt (countsOf (ballots shifted)) v) (omega (arith, ballots-at shifted v h)))
 
-  pub value-byte : length shifted ≡ 4080 → AllBytes shifted → (s : ℕ) → s < 8 → valueOf shifted s < 256
+  pub value-byte : length shifted ≡ 4080 → AllBytes shifted → (s : ℕ) → s < 8 → exactValue shifted s < 256
   value-byte long b s h = b .at (s * 512) (omega arith)
 
-  pub value-voted : (s v : ℕ) → s < 8 → isExact shifted s ≡ true → valueOf shifted s ≡ v → 0 < votesFor shifted v
+  pub value-voted : (s v : ℕ) → s < 8 → isExact shifted s ≡ true → exactValue shifted s ≡ v → 0 < votesFor shifted v
   unfolding votesFor
   value-voted s v h x e =
-      some-pass (λ s. isExact shifted s && eqb (valueOf shifted s) v) 8 s h
-      (and-yes (isExact shifted s) (eqb (valueOf shifted s) v) x (eq-eqb (valueOf shifted s) v e))
+      some-pass (λ s. isExact shifted s && eqb (exactValue shifted s) v) 8 s h
+      (and-yes (isExact shifted s) (eqb (exactValue shifted s) v) x (eq-eqb (exactValue shifted s) v e))
 
   -- where a value alone is voted for, every exact sector votes for it
   module _ (long : length shifted ≡ 4080) (bytes : AllBytes shifted) where
@@ -38,22 +38,22 @@ module _ (shifted : List ℕ) where
         → (s : ℕ)
         → s < 8
         → isExact shifted s ≡ true
-        → valueOf shifted s ≡ bv
-    vote-alone bv only s h x = only (valueOf shifted s) (value-byte long bytes s h) (value-voted s (valueOf shifted s) h x refl)
+        → exactValue shifted s ≡ bv
+    vote-alone bv only s h x = only (exactValue shifted s) (value-byte long bytes s h) (value-voted s (exactValue shifted s) h x refl)
 
     pub none-exact : ((v : ℕ) → v < 256 → 0 < votesFor shifted v → ⊥) → exactSectors shifted ≡ 0
     unfolding exactSectors
     none-exact none =
         all-fail (isExact shifted) 8
-        (λ s h. not-true (isExact shifted s) (λ x. none (valueOf shifted s) (value-byte long bytes s h) (value-voted s (valueOf shifted s) h x refl)))
+        (λ s h. not-true (isExact shifted s) (λ x. none (exactValue shifted s) (value-byte long bytes s h) (value-voted s (exactValue shifted s) h x refl)))
 
-  pub all-agree : (bv : ℕ) → ((s : ℕ) → s < 8 → isExact shifted s ≡ true → valueOf shifted s ≡ bv) → votesFor shifted bv ≡ exactSectors shifted
+  pub all-agree : (bv : ℕ) → ((s : ℕ) → s < 8 → isExact shifted s ≡ true → exactValue shifted s ≡ bv) → votesFor shifted bv ≡ exactSectors shifted
   unfolding votesFor exactSectors
   all-agree bv agree =
-      many-ext (λ s. isExact shifted s && eqb (valueOf shifted s) bv) (isExact shifted) 8 (λ s h. one s (isExact shifted s) (λ x. agree s h x))
+      many-ext (λ s. isExact shifted s && eqb (exactValue shifted s) bv) (isExact shifted) 8 (λ s h. one s (isExact shifted s) (λ x. agree s h x))
     where
-      one : (s : ℕ) (b : Bool) → (b ≡ true → valueOf shifted s ≡ bv) → (b && eqb (valueOf shifted s) bv) ≡ b
-      one s true e = eq-eqb (valueOf shifted s) bv (e refl)
+      one : (s : ℕ) (b : Bool) → (b ≡ true → exactValue shifted s ≡ bv) → (b && eqb (exactValue shifted s) bv) ≡ b
+      one s true e = eq-eqb (exactValue shifted s) bv (e refl)
       one s false e = refl
 
   -- votes for two values are votes of different sectors
@@ -63,9 +63,9 @@ module _ (shifted : List ℕ) where
       omega (
         arith,
         exact-parted shifted v,
-        wider-pass (λ s. isExact shifted s && eqb (valueOf shifted s) w) (λ s. isExact shifted s && not (eqb (valueOf shifted s) v)) 8
+        wider-pass (λ s. isExact shifted s && eqb (exactValue shifted s) w) (λ s. isExact shifted s && not (eqb (exactValue shifted s) v)) 8
             (λ s h t.
-            and-yes (isExact shifted s) (not (eqb (valueOf shifted s) v)) (and-left (isExact shifted s) (eqb (valueOf shifted s) w) t)
+            and-yes (isExact shifted s) (not (eqb (exactValue shifted s) v)) (and-left (isExact shifted s) (eqb (exactValue shifted s) w) t)
             (ap not
-            (ne-eqb (valueOf shifted s) v (λ e. ne (sym (eqb-true (valueOf shifted s) w (and-right (isExact shifted s) (eqb (valueOf shifted s) w) t)) ∙ e))))),
+            (ne-eqb (exactValue shifted s) v (λ e. ne (sym (eqb-true (exactValue shifted s) w (and-right (isExact shifted s) (eqb (exactValue shifted s) w) t)) ∙ e))))),
       )

@@ -23,15 +23,15 @@ use Rattle.meanings.specs.Sources.{Other}
 abbrev pub evidenceAt : Grounds → ℕ → Evidence
 evidenceAt g i = getD (g .items) i (record { evidence = evidence.Nothing }) .evidence
 
-pub record Listed (g : Grounds) (e : Evidence) : Type 0 where
+pub record InTable (g : Grounds) (e : Evidence) : Type 0 where
   pub place : ℕ
   pub within : place < g .len
   pub is : evidenceAt g place ≡ e
 
 -- a table tells the evidence that holds and no other: by rising numbers, so each piece once, and blanks behind it
-pub record Tells (Holds : Evidence → Type 0) (g : Grounds) : Type 0 where
+pub record EvidenceTold (Holds : Evidence → Type 0) (g : Grounds) : Type 0 where
   pub only : (i : ℕ) → i < g .len → Holds (evidenceAt g i)
-  pub every : (e : Evidence) → Holds e → Listed g e
+  pub every : (e : Evidence) → Holds e → InTable g e
   pub order : (i j : ℕ) → i < j → j < g .len → evidenceNumber (evidenceAt g i) < evidenceNumber (evidenceAt g j)
   pub blank : (i : ℕ) → g .len ≤ i → evidenceAt g i ≡ evidence.Nothing
   pub room : length (g .items) ≡ 4
@@ -45,7 +45,7 @@ pub record BestOther (shifted : List ℕ) (bv m : ℕ) : Type 0 where
   pub zeros : zerosWith shifted value ≡ m
 
 -- "lead over the best other candidate, never below 0": no other candidate leaves more than `best` data bytes zero, and one leaves so many unless it is 0
-pub record Leads (shifted : List ℕ) (bv lead : ℕ) : Type 0 where
+pub record LeadsBy (shifted : List ℕ) (bv lead : ℕ) : Type 0 where
   pub best : ℕ
   pub most : (v : ℕ) → Other shifted bv v → zerosWith shifted v ≤ best
   pub met : 0 < best → BestOther shifted bv best
@@ -59,7 +59,7 @@ module _ (lim : ℕ) (shifted anchors : List ℕ) (n t bv : ℕ) where
   Supports (evidence.ExactSectors votes dissent) =
       (0 < votesFor shifted bv) × (votes ≡ votesFor shifted bv) × (dissent ≡ dissentFrom shifted bv)
   Supports evidence.BlockAnchor = isIn bv anchors ≡ true
-  Supports (evidence.ZeroMass zeros lead) = (zeros ≡ zerosWith shifted bv) × Leads shifted bv lead
+  Supports (evidence.ZeroMass zeros lead) = (zeros ≡ zerosWith shifted bv) × LeadsBy shifted bv lead
   Supports evidence.Unallocated = ⊥
 
 -- ---- the theorem
@@ -70,4 +70,4 @@ pub record Evidenced : Type 0 where
       → AllBytes shifted
       → let c : Choice = choiceOf lim number shifted anchors n o in
       isAccepted (c .answer) ≡ true
-      → Tells (Supports lim shifted anchors n (o .«min_trailer_count») (c .bv)) (c .grounds)
+      → EvidenceTold (Supports lim shifted anchors n (o .«min_trailer_count») (c .bv)) (c .grounds)

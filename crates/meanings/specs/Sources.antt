@@ -28,7 +28,7 @@ use Rattle.votes.specs.Votes.{countsOf, topOf, isVerified}
 use Rattle.groups.specs.Groups.{above}
 use Rattle.choice.specs.declared.Choice.{Choice}
 use Rattle.choice.specs.Rules.{choiceOf}
-use Rattle.meanings.specs.Values.{isExact, valueOf, exactSectors, votesFor, zerosWith, standsFor}
+use Rattle.meanings.specs.Values.{isExact, exactValue, exactSectors, votesFor, zerosWith, standsFor}
 
 -- ---- candidates
 
@@ -103,7 +103,7 @@ pub record SoleVerified (lim : ℕ) (shifted anchors : List ℕ) (n t bv : ℕ) 
 pub record Agreed (lim : ℕ) (shifted : List ℕ) (n t bv : ℕ) : Type 0 where
   pub unverified : NoneVerified lim shifted n t
   pub two : 2 ≤ exactSectors shifted
-  pub all : (s : ℕ) → s < 8 → isExact shifted s ≡ true → valueOf shifted s ≡ bv
+  pub all : (s : ℕ) → s < 8 → isExact shifted s ≡ true → exactValue shifted s ≡ bv
 
 -- rule 3. "One vote in all, for the top, anchored, no other candidate voted or anchored": the one vote is v's, so no other value has one
 pub record Corroborates (shifted anchors : List ℕ) (v : ℕ) : Type 0 where
@@ -272,6 +272,6 @@ pub record ChoiceMeans : Type 0 where
       (lim number : ℕ) (shifted anchors : List ℕ) (o : Options) (bv : ℕ)
       → length shifted ≡ 4080
       → bv < 256
-      → ((s : ℕ) → s < 8 → (isExact shifted s ≡ true) × (valueOf shifted s ≡ bv))
+      → ((s : ℕ) → s < 8 → (isExact shifted s ≡ true) × (exactValue shifted s ≡ bv))
       → let c : Choice = choiceOf lim number shifted anchors 0 o in
       ByExactSectors lim number shifted anchors 0 o c × (c .bv ≡ bv)

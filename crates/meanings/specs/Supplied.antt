@@ -22,7 +22,7 @@ use Rattle.slots.specs.Slots.{rowCountMatches}
 use Rattle.choice.specs.declared.Choice.{Choice}
 use Rattle.choice.specs.Supplied.{suppliedOf}
 use Rattle.meanings.specs.Values.{votesFor, dissentFrom}
-use Rattle.meanings.specs.Evidence.{Tells}
+use Rattle.meanings.specs.Evidence.{EvidenceTold}
 
 -- "Exact-sector evidence needs two votes, and calibrates if there is no dissent"
 pub record Calibrates (shifted : List ℕ) (bv : ℕ) : Type 0 where
@@ -58,7 +58,7 @@ module _ (lim number bv : ℕ) (shifted : List ℕ) (n : ℕ) (o : Options) (s :
     pub value : s .bv ≡ bv
     pub from : s .source ≡ source.Supplied
     pub trusted : s .confidence ≡ k
-    pub evidence : Tells (Backs lim bv shifted n t) (s .grounds)
+    pub evidence : EvidenceTold (Backs lim bv shifted n t) (s .grounds)
     pub unlisted : s .group ≡ noBvs
     pub warned : s .warned ≡ w
 
@@ -73,16 +73,16 @@ module _ (lim number bv : ℕ) (shifted : List ℕ) (n : ℕ) (o : Options) (s :
     pub warned : s .warned ≡ warning.Nothing
 
   -- one of these
-  pub data Meaning : Type 0 where
-    verified : length shifted ≡ 4080 → passes lim bv shifted n t ≡ true → TakenAs confidence.Verified warning.Nothing → Meaning
-    calibrated : length shifted ≡ 4080 → passes lim bv shifted n t ≡ false → Calibrates shifted bv → TakenAs confidence.Calibrated warning.Nothing → Meaning
+  pub data SuppliedMeaning : Type 0 where
+    verified : length shifted ≡ 4080 → passes lim bv shifted n t ≡ true → TakenAs confidence.Verified warning.Nothing → SuppliedMeaning
+    calibrated : length shifted ≡ 4080 → passes lim bv shifted n t ≡ false → Calibrates shifted bv → TakenAs confidence.Calibrated warning.Nothing → SuppliedMeaning
     unverified :
-        length shifted ≡ 4080 → Unbacked lim bv shifted n t → keystream o ≡ true → TakenAs confidence.Unverified (warning.UnverifiedKeystream bv) → Meaning
-    refused : length shifted ≡ 4080 → Unbacked lim bv shifted n t → keystream o ≡ false → RefusedAs (answer.KeystreamUnverified number bv) → Meaning
-    wrong-length : (length shifted ≡ 4080 → ⊥) → RefusedAs (answer.WrongBufferLength (length shifted)) → Meaning
+        length shifted ≡ 4080 → Unbacked lim bv shifted n t → keystream o ≡ true → TakenAs confidence.Unverified (warning.UnverifiedKeystream bv) → SuppliedMeaning
+    refused : length shifted ≡ 4080 → Unbacked lim bv shifted n t → keystream o ≡ false → RefusedAs (answer.KeystreamUnverified number bv) → SuppliedMeaning
+    wrong-length : (length shifted ≡ 4080 → ⊥) → RefusedAs (answer.WrongBufferLength (length shifted)) → SuppliedMeaning
 
   -- what its confidence and its answer say of the page
-  pub record Said : Type 0 where
+  pub record SuppliedSaid : Type 0 where
     pub verified : s .confidence ≡ confidence.Verified → passes lim bv shifted n t ≡ true
     pub calibrated : s .confidence ≡ confidence.Calibrated → (passes lim bv shifted n t ≡ false) × Calibrates shifted bv
     pub unverified : s .confidence ≡ confidence.Unverified → Unbacked lim bv shifted n t × (keystream o ≡ true)
@@ -90,7 +90,7 @@ module _ (lim number bv : ℕ) (shifted : List ℕ) (n : ℕ) (o : Options) (s :
     pub wrong-length : numberOf (s .answer) ≡ 2 → length shifted ≡ 4080 → ⊥
 
   -- what a page makes of it
-  pub record Made : Type 0 where
+  pub record SuppliedMade : Type 0 where
     pub verified : length shifted ≡ 4080 → passes lim bv shifted n t ≡ true → TakenAs confidence.Verified warning.Nothing
     pub calibrated :
         length shifted ≡ 4080 → passes lim bv shifted n t ≡ false → Calibrates shifted bv → TakenAs confidence.Calibrated warning.Nothing
@@ -102,8 +102,8 @@ pub record SuppliedMeans : Type 0 where
   -- every supplied bv is one of the five; so its marks say what holds of the page, and what holds of the page decides it
   pub every :
       (lim number bv : ℕ) (shifted : List ℕ) (n : ℕ) (o : Options)
-      → Meaning lim number bv shifted n o (suppliedOf lim number bv shifted n o)
+      → SuppliedMeaning lim number bv shifted n o (suppliedOf lim number bv shifted n o)
   pub said :
-      (lim number bv : ℕ) (shifted : List ℕ) (n : ℕ) (o : Options) → Said lim number bv shifted n o (suppliedOf lim number bv shifted n o)
+      (lim number bv : ℕ) (shifted : List ℕ) (n : ℕ) (o : Options) → SuppliedSaid lim number bv shifted n o (suppliedOf lim number bv shifted n o)
   pub made :
-      (lim number bv : ℕ) (shifted : List ℕ) (n : ℕ) (o : Options) → Made lim number bv shifted n o (suppliedOf lim number bv shifted n o)
+      (lim number bv : ℕ) (shifted : List ℕ) (n : ℕ) (o : Options) → SuppliedMade lim number bv shifted n o (suppliedOf lim number bv shifted n o)

@@ -12,18 +12,18 @@ use Rattle.votes.specs.Votes.{countsOf, ballots, isCandidate}
 abbrev pub isExact : List ℕ → ℕ → Bool
 isExact shifted s = allSame (part s shifted)
 
-abbrev pub valueOf : List ℕ → ℕ → ℕ
-valueOf shifted s = byteAt shifted (s * 512)
+abbrev pub exactValue : List ℕ → ℕ → ℕ
+exactValue shifted s = byteAt shifted (s * 512)
 
 -- how many sectors are exact; how many of them vote for v, and how many do not
 unfoldable pub exactSectors : List ℕ → ℕ
 exactSectors shifted = howMany (isExact shifted) 8
 
 unfoldable pub votesFor : List ℕ → ℕ → ℕ
-votesFor shifted v = howMany (λ s. isExact shifted s && eqb (valueOf shifted s) v) 8
+votesFor shifted v = howMany (λ s. isExact shifted s && eqb (exactValue shifted s) v) 8
 
 unfoldable pub dissentFrom : List ℕ → ℕ → ℕ
-dissentFrom shifted v = howMany (λ s. isExact shifted s && not (eqb (valueOf shifted s) v)) 8
+dissentFrom shifted v = howMany (λ s. isExact shifted s && not (eqb (exactValue shifted s) v)) 8
 
 -- how many data bytes are zero when the page is written with v
 unfoldable pub zerosWith : List ℕ → ℕ → ℕ

@@ -12,25 +12,25 @@ use Rattle.lists.specs.Cases.{flag}
 use Rattle.lists.specs.Counts.{howMany}
 use Rattle.lists.proofs.Many.{many-none, many-yes, many-no, many-grows}
 use Rattle.numbers.specs.Numbers.{littleBytes}
-use Rattle.fields.specs.Fields.{bytesOf, layoutBytes}
+use Rattle.fields.specs.Fields.{fieldBytes, layoutBytes}
 use Rattle.parts.specs.Parts.{fitSize, fitsSize, fitFields}
 use Rattle.parts.specs.Lent.{isNoMark, isLent, fitIn}
 
 -- the first s fits are marked by 0 or 1
-pub record Marked (b : List ℕ) (s : ℕ) : Type 0 where
+pub record MarksSeen (b : List ℕ) (s : ℕ) : Type 0 where
   pub within : s ≤ 8
   pub others : howMany (isNoMark b) s ≡ 0
 
 module _ (b : List ℕ) where
-  pub marked-none : Marked b 0
+  pub marked-none : MarksSeen b 0
   marked-none = record { within = omega arith; others = many-none (isNoMark b) }
 
   pub lent-short : (length b ≡ fitsSize → ⊥) → false ≡ isLent b
   unfolding isLent
   lent-short h = rw (ne-eqb (length b) fitsSize h) refl
 
-  module _ (s : ℕ) (m : Marked b s) where
-    pub marked-more : s < 8 → byteAt b (fitSize * s + 5) ≤ 1 → Marked b (s + 1)
+  module _ (s : ℕ) (m : MarksSeen b s) where
+    pub marked-more : s < 8 → byteAt b (fitSize * s + 5) ≤ 1 → MarksSeen b (s + 1)
     marked-more h l =
         record { within = omega arith; others = many-no (isNoMark b) s (le-ltb 1 (byteAt b (fitSize * s + 5)) l) ∙ m .others }
 
@@ -62,7 +62,7 @@ pub fit-back :
     → byteAt b (at + 5) ≤ 1
     → layoutBytes (fitFields (fitIn b at))
     ≡ byteAt b at ∷ byteAt b (at + 1) ∷ byteAt b (at + 2) ∷ byteAt b (at + 3) ∷ byteAt b (at + 4) ∷ byteAt b (at + 5) ∷ []
-unfolding layoutBytes bytesOf fitFields fitIn littleBytes
+unfolding layoutBytes fieldBytes fitFields fitIn littleBytes
 fit-back b at bytes h =
     six
     (omega (arith, bytes at))

@@ -9,7 +9,7 @@ use Rattle.lists.specs.Pieces.{joined}
 use Rattle.numbers.specs.Numbers.{littleBytes}
 use Rattle.numbers.specs.Writes.{Wrote}
 use Rattle.numbers.proofs.Stored.{stores, storesFrom, wrote-stored}
-use Rattle.fields.specs.Fields.{bytesOf, layoutBytes, Put}
+use Rattle.fields.specs.Fields.{fieldBytes, layoutBytes, Put}
 use Rattle.fields.proofs.Puts.{put-none, put-field, layout-put}
 use Rattle.fields.proofs.Tables.{table-none, table-more}
 use Rattle.row_layout.specs.RowLayouts.{slotEntry, slotsFields, slotsSize}
@@ -29,7 +29,7 @@ module _ (slots l : List ℕ) (a : ℕ) where
       → Put l a (joined (slotEntry slots) s) o (a + 2 * s)
       → a + 2 * s + 2 ≤ length o
       → Put l a (joined (slotEntry slots) (s + 1)) (set (set o (a + 2 * s) (byteAt slots s % 256)) (a + 2 * s + 1) (byteAt slots s / 256 % 256)) (a + 2 * (s + 1))
-  unfolding bytesOf
+  unfolding fieldBytes
   slots-more o s q h =
       let v : ℕ = byteAt slots s in
       let p : ℕ = a + 2 * s in

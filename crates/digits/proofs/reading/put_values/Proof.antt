@@ -8,7 +8,7 @@ use lib.ListN.{length, length-set}
 use Rattle.lists.specs.Counts.{greatest}
 use Rattle.lists.specs.Pieces.{each, over}
 use Rattle.lists.proofs.Greatest.{greatest-none, greatest-up, greatest-same}
-use Rattle.digits.specs.Digits.{valueAt, valuesOf, worstOf}
+use Rattle.digits.specs.Digits.{valueAt, digitValues, worstOf}
 use Rattle.lists.proofs.Filled.{each-start, each-put}
 use Rattle.digits.proofs.reading.put_values.Statement.{statement}
 use Rattle.digits.proofs.reading.put_values.Tie as tie
@@ -34,7 +34,7 @@ loop-again c =
     )
 
 returns : tie.Need-returns Inv-loop μ-loop
-unfolding worstOf valuesOf
+unfolding worstOf digitValues
 returns c =
     let l = c .before .loop in
     let a = c .before .before .before .before .args in

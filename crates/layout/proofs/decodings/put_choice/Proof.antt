@@ -1,13 +1,13 @@
 -- `put_choice` meets its contract: the parts are put one behind the other.
 use borrow.Author.Needs.{needs}
-use Rattle.fields.specs.Fields.{bytesOf}
+use Rattle.fields.specs.Fields.{fieldBytes}
 use Rattle.fields.proofs.Puts.{put-field, put-known, put-then}
 use Rattle.layout.specs.Layouts.{choiceFields}
 use Rattle.layout.proofs.decodings.put_choice.Statement.{statement}
 use Rattle.layout.proofs.decodings.put_choice.Tie as tie
 
 returns : tie.Need-returns
-unfolding choiceFields bytesOf
+unfolding choiceFields fieldBytes
 returns c =
     let grounds = c .before .before in
     let count = grounds .before .before .before .before in

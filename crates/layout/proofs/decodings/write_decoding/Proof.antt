@@ -1,7 +1,7 @@
 -- `write_decoding` meets its contract: the parts are put one behind the other.
 use borrow.Author.Needs.{needs}
 use native.Mathlib.Omega.{arith}
-use Rattle.fields.specs.Fields.{bytesOf}
+use Rattle.fields.specs.Fields.{fieldBytes}
 use Rattle.fields.proofs.Puts.{put-field, put-then, layout-short, layout-put}
 use Rattle.layout.specs.Layouts.{decodingFields}
 use Rattle.layout.proofs.Sizes.{decoding-size}
@@ -12,7 +12,7 @@ returns : tie.Need-returns
 returns c = layout-short _ (decoding-size _) (omega arith)
 
 returns-2 : tie.Need-returns-2
-unfolding decodingFields bytesOf
+unfolding decodingFields fieldBytes
 returns-2 c =
     let warnings = c .before .before in
     let count = warnings .before .before .before .before in

@@ -1,6 +1,6 @@
 -- `put_header` meets its contract: its puts are its fields.
 use borrow.Author.Needs.{needs}
-use Rattle.fields.specs.Fields.{bytesOf}
+use Rattle.fields.specs.Fields.{fieldBytes}
 use Rattle.fields.proofs.Puts.{put-none, put-field, put-long}
 use Rattle.layout.specs.Layouts.{headerFields}
 use Rattle.layout.proofs.pages.put_header.Statement.{statement}
@@ -8,7 +8,7 @@ use Rattle.layout.proofs.pages.put_header.Tie as tie
 
 -- the puts, from the last back
 returns : tie.Need-returns
-unfolding headerFields bytesOf
+unfolding headerFields fieldBytes
 returns c =
     let marker = c .before .before in
     let hint = marker .before .before .before .before in

@@ -1,6 +1,6 @@
 -- `put_record` meets its contract: its puts are its fields.
 use borrow.Author.Needs.{needs}
-use Rattle.fields.specs.Fields.{bytesOf}
+use Rattle.fields.specs.Fields.{fieldBytes}
 use Rattle.fields.proofs.Puts.{put-none, put-field, put-known}
 use Rattle.layout.specs.Layouts.{recordFields}
 use Rattle.layout.proofs.pages.put_record.Statement.{statement}
@@ -8,7 +8,7 @@ use Rattle.layout.proofs.pages.put_record.Tie as tie
 
 -- the puts, from the last back
 returns : tie.Need-returns
-unfolding recordFields bytesOf
+unfolding recordFields fieldBytes
 returns c =
     let reserved = c .before .before in
     let crc = reserved .before .before .before .before in

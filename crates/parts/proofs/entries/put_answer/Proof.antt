@@ -2,7 +2,7 @@
 use mathlib.Core.Path.{ap}
 use borrow.Author.Needs.{needs}
 use Rattle.answers.specs.declared.values.Values.{Values}
-use Rattle.fields.specs.Fields.{bytesOf}
+use Rattle.fields.specs.Fields.{fieldBytes}
 use Rattle.fields.proofs.Puts.{put-none, put-field, put-known}
 use Rattle.parts.specs.Parts.{answerFields}
 use Rattle.parts.proofs.entries.put_answer.Statement.{statement}
@@ -10,7 +10,7 @@ use Rattle.parts.proofs.entries.put_answer.Tie as tie
 
 -- the puts, from the last back
 returns : tie.Need-returns
-unfolding answerFields bytesOf
+unfolding answerFields fieldBytes
 returns c =
     let fourth = c .before .before in
     let third = fourth .before .before .before .before in

@@ -1,6 +1,6 @@
 -- `put_fit` meets its contract: its puts are its fields.
 use borrow.Author.Needs.{needs}
-use Rattle.fields.specs.Fields.{bytesOf}
+use Rattle.fields.specs.Fields.{fieldBytes}
 use Rattle.fields.proofs.Puts.{put-none, put-field}
 use Rattle.parts.specs.Parts.{fitFields}
 use Rattle.parts.proofs.entries.put_fit.Statement.{statement}
@@ -8,7 +8,7 @@ use Rattle.parts.proofs.entries.put_fit.Tie as tie
 
 -- the puts, from the last back
 returns : tie.Need-returns
-unfolding fitFields bytesOf
+unfolding fitFields fieldBytes
 returns c =
     let exact = c .before .before in
     let runner-up = exact .before .before .before .before in

@@ -2,7 +2,7 @@
 use mathlib.Core.Path.{ap}
 use borrow.Author.Needs.{needs}
 use Rattle.answers.specs.declared.values.Values.{Values}
-use Rattle.fields.specs.Fields.{bytesOf}
+use Rattle.fields.specs.Fields.{fieldBytes}
 use Rattle.fields.proofs.Puts.{put-none, put-known}
 use Rattle.parts.specs.Parts.{groundFields}
 use Rattle.parts.proofs.entries.put_ground.Statement.{statement}
@@ -10,7 +10,7 @@ use Rattle.parts.proofs.entries.put_ground.Tie as tie
 
 -- the puts, from the last back
 returns : tie.Need-returns
-unfolding groundFields bytesOf
+unfolding groundFields fieldBytes
 returns c =
     let second = c .before .before in
     let first = second .before .before .before .before in

@@ -2,12 +2,12 @@
 use borrow.Author.Needs.{needs}
 use Prim.Native.Nat.{_-_}
 use native.Mathlib.Omega.{arith}
-use Rattle.parts.proofs.LentFits.{Marked, marked-none, marked-more, lent-short, lent-other, lent-all}
+use Rattle.parts.proofs.LentFits.{MarksSeen, marked-none, marked-more, lent-short, lent-other, lent-all}
 use Rattle.parts.proofs.lent.fits_lent.Statement.{statement}
 use Rattle.parts.proofs.lent.fits_lent.Tie as tie
 
 abbrev Inv-loop : tie.InvT-loop
-Inv-loop bytes s₀ s = Marked bytes s
+Inv-loop bytes s₀ s = MarksSeen bytes s
 
 abbrev μ-loop : tie.MeasureT-loop
 μ-loop bytes s₀ s = 8 - s

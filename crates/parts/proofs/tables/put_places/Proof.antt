@@ -3,7 +3,7 @@ use borrow.Author.Needs.{needs}
 use Prim.Native.Nat.{_-_, _≤_}
 use native.Mathlib.Omega.{arith}
 use Rattle.lists.specs.Pieces.{joined}
-use Rattle.fields.specs.Fields.{bytesOf, Put}
+use Rattle.fields.specs.Fields.{fieldBytes, Put}
 use Rattle.fields.proofs.Puts.{put-none, put-field, put-long}
 use Rattle.fields.proofs.Tables.{table-none, table-more, table-done}
 use Rattle.parts.specs.Parts.{placeEntry, placesFields}
@@ -17,7 +17,7 @@ abbrev μ-loop : tie.MeasureT-loop
 μ-loop out₀ at items next₀ s₀ out next s = 8 - s
 
 loop-again : tie.Need-loop-again Inv-loop μ-loop
-unfolding bytesOf
+unfolding fieldBytes
 loop-again c = (omega arith, table-more _ (c .before .before .before .before .before .loop .inv .1) (put-field (c .before .before .put-u8 .ensures) put-none))
 
 returns : tie.Need-returns Inv-loop μ-loop

@@ -1,6 +1,6 @@
 -- `put_directory` meets its contract: its puts are its fields.
 use borrow.Author.Needs.{needs}
-use Rattle.fields.specs.Fields.{bytesOf}
+use Rattle.fields.specs.Fields.{fieldBytes}
 use Rattle.fields.proofs.Puts.{put-none, put-field, put-known}
 use Rattle.row_layout.specs.RowLayouts.{directoryFields}
 use Rattle.row_layout.proofs.directories.put_directory.Statement.{statement}
@@ -8,7 +8,7 @@ use Rattle.row_layout.proofs.directories.put_directory.Tie as tie
 
 -- the puts, from the last back
 returns : tie.Need-returns
-unfolding directoryFields bytesOf
+unfolding directoryFields fieldBytes
 returns c =
     let count = c .before .before in
     let declared = count .before .before .before .before in

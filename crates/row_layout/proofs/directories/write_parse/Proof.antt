@@ -1,7 +1,7 @@
 -- `write_parse` meets its contract: the parts are put one behind the other.
 use borrow.Author.Needs.{needs}
 use native.Mathlib.Omega.{arith}
-use Rattle.fields.specs.Fields.{bytesOf}
+use Rattle.fields.specs.Fields.{fieldBytes}
 use Rattle.fields.proofs.Puts.{put-field, put-then, put-whole, layout-short, layout-put}
 use Rattle.row_layout.specs.RowLayouts.{parseFields}
 use Rattle.row_layout.proofs.Sizes.{slots-size, parse-head-size, parse-size}
@@ -12,7 +12,7 @@ returns : tie.Need-returns
 returns c = layout-short _ (parse-size _) (omega arith)
 
 returns-2 : tie.Need-returns-2
-unfolding parseFields bytesOf
+unfolding parseFields fieldBytes
 returns-2 c =
     let warnings = c .before .before in
     let count = warnings .before .before .before .before in

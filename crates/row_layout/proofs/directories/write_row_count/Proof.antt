@@ -1,7 +1,7 @@
 -- `write_row_count` meets its contract: the parts are put one behind the other.
 use borrow.Author.Needs.{needs}
 use native.Mathlib.Omega.{arith}
-use Rattle.fields.specs.Fields.{bytesOf}
+use Rattle.fields.specs.Fields.{fieldBytes}
 use Rattle.fields.proofs.Puts.{put-none, put-field, put-then, layout-short, layout-put}
 use Rattle.row_layout.specs.RowLayouts.{rowCountFields}
 use Rattle.row_layout.proofs.Sizes.{row-count-size}
@@ -12,7 +12,7 @@ returns : tie.Need-returns
 returns c = layout-short _ (row-count-size _ _) (omega arith)
 
 returns-2 : tie.Need-returns-2
-unfolding rowCountFields bytesOf
+unfolding rowCountFields fieldBytes
 returns-2 c =
     let count = c .before .before in
     let answer = count .before .before .before .before in

@@ -1,7 +1,7 @@
 -- `write_rows` meets its contract: the parts are put one behind the other.
 use borrow.Author.Needs.{needs}
 use native.Mathlib.Omega.{arith}
-use Rattle.fields.specs.Fields.{bytesOf}
+use Rattle.fields.specs.Fields.{fieldBytes}
 use Rattle.fields.proofs.Puts.{put-none, put-field, put-then, put-whole, layout-short, layout-put}
 use Rattle.row_layout.specs.RowLayouts.{rowsFields}
 use Rattle.row_layout.proofs.Sizes.{slots-size, rows-head-size, rows-size}
@@ -12,7 +12,7 @@ returns : tie.Need-returns
 returns c = layout-short _ (rows-size _) (omega arith)
 
 returns-2 : tie.Need-returns-2
-unfolding rowsFields bytesOf
+unfolding rowsFields fieldBytes
 returns-2 c =
     let slots = c .before .before in
     let count = slots .before .before .before .before in
