@@ -32,6 +32,16 @@ fn put(page: &mut [u8], at: usize, low: u8, high: u8) {
     page[at + 1] = high;
 }
 
+// So many slots from an offset on: high * 256, (high - 1) * 256 and so on.
+fn fall(page: &mut [u8], at: u16, high: u8, count: u8) {
+    let mut k: u8 = 0;
+    while k < count {
+        let i = at as usize + 2 * (k as usize);
+        put(page, i, 0x00, std::num::wrapping_sub_u8(high, k));
+        k += 1;
+    }
+}
+
 fn answer(a: Answer) {
     number(a.number() as u64);
     values(a.values());
@@ -164,9 +174,7 @@ fn four_rows() {
     let mut page = io::buffer();
     put(&mut page, 0xFF0, 5, 0);
     put(&mut page, 0x40, 0x05, 0x00);
-    put(&mut page, 0x44, 0x00, 0x0F);
-    put(&mut page, 0x46, 0x00, 0x0E);
-    put(&mut page, 0x48, 0x00, 0x0D);
+    fall(&mut page, 0x44, 0x0F, 3);
     put(&mut page, 0x4C, 0x00, 0x0C);
     both(b"four rows", &page);
     text(b"row count at T 5 and 6");
@@ -184,30 +192,19 @@ fn count_below_four() {
     let mut page = io::buffer();
     put(&mut page, 0xFF0, 2, 0);
     put(&mut page, 0x40, 0x02, 0x00);
-    put(&mut page, 0x44, 0x00, 0x0F);
-    put(&mut page, 0x46, 0x00, 0x0E);
+    fall(&mut page, 0x44, 0x0F, 2);
     both(b"count below four", &page);
 }
 
 fn four_live() {
     let mut page = io::buffer();
-    put(&mut page, 0x50, 0x00, 0x0F);
-    put(&mut page, 0x52, 0x00, 0x0E);
-    put(&mut page, 0x54, 0x00, 0x0D);
-    put(&mut page, 0x56, 0x00, 0x0C);
+    fall(&mut page, 0x50, 0x0F, 4);
     both(b"four live", &page);
 }
 
 fn eight_live() {
     let mut page = io::buffer();
-    put(&mut page, 0x50, 0x00, 0x0F);
-    put(&mut page, 0x52, 0x00, 0x0E);
-    put(&mut page, 0x54, 0x00, 0x0D);
-    put(&mut page, 0x56, 0x00, 0x0C);
-    put(&mut page, 0x58, 0x00, 0x0B);
-    put(&mut page, 0x5A, 0x00, 0x0A);
-    put(&mut page, 0x5C, 0x00, 0x09);
-    put(&mut page, 0x5E, 0x00, 0x08);
+    fall(&mut page, 0x50, 0x0F, 8);
     both(b"eight live", &page);
 }
 
@@ -221,11 +218,7 @@ fn truncated() {
     let mut page = io::buffer();
     put(&mut page, 0xFF0, 6, 0);
     put(&mut page, 0x40, 0x06, 0x00);
-    put(&mut page, 0x44, 0x00, 0x0F);
-    put(&mut page, 0x46, 0x00, 0x0E);
-    put(&mut page, 0x48, 0x00, 0x0D);
-    put(&mut page, 0x4A, 0x00, 0x0C);
-    put(&mut page, 0x4C, 0x00, 0x0B);
+    fall(&mut page, 0x44, 0x0F, 5);
     put(&mut page, 0x4E, 0xFF, 0xFF);
     both(b"truncated", &page);
 }
@@ -234,10 +227,8 @@ fn truncated_with_a_zero() {
     let mut page = io::buffer();
     put(&mut page, 0xFF0, 8, 0);
     put(&mut page, 0x40, 0x08, 0x00);
-    put(&mut page, 0x44, 0x00, 0x0F);
-    put(&mut page, 0x46, 0x00, 0x0E);
-    put(&mut page, 0x4A, 0x00, 0x0D);
-    put(&mut page, 0x4C, 0x00, 0x0C);
+    fall(&mut page, 0x44, 0x0F, 2);
+    fall(&mut page, 0x4A, 0x0D, 2);
     put(&mut page, 0x4E, 0x00, 0x0F);
     both(b"truncated, a zero counted", &page);
 }
@@ -246,16 +237,10 @@ fn two_truncated() {
     let mut page = io::buffer();
     put(&mut page, 0xFF0, 6, 0);
     put(&mut page, 0x40, 0x06, 0x00);
-    put(&mut page, 0x44, 0x00, 0x0F);
-    put(&mut page, 0x46, 0x00, 0x0E);
-    put(&mut page, 0x48, 0x00, 0x0D);
-    put(&mut page, 0x4A, 0x00, 0x0C);
+    fall(&mut page, 0x44, 0x0F, 4);
     put(&mut page, 0x4C, 0xFF, 0xFF);
     put(&mut page, 0x100, 0x06, 0x00);
-    put(&mut page, 0x104, 0x00, 0x0F);
-    put(&mut page, 0x106, 0x00, 0x0E);
-    put(&mut page, 0x108, 0x00, 0x0D);
-    put(&mut page, 0x10A, 0x00, 0x0C);
+    fall(&mut page, 0x104, 0x0F, 4);
     put(&mut page, 0x10C, 0xFF, 0xFF);
     both(b"two truncated alike", &page);
 }
@@ -265,9 +250,7 @@ fn first_slot_no_offset() {
     put(&mut page, 0xFF0, 4, 0);
     put(&mut page, 0x40, 0x04, 0x00);
     put(&mut page, 0x44, 0xF0, 0x0F);
-    put(&mut page, 0x46, 0x00, 0x0F);
-    put(&mut page, 0x48, 0x00, 0x0E);
-    put(&mut page, 0x4A, 0x00, 0x0D);
+    fall(&mut page, 0x46, 0x0F, 3);
     both(b"first slot 0xFF0", &page);
 }
 
@@ -276,10 +259,7 @@ fn slots_past_the_limit() {
     let mut page = io::buffer();
     put(&mut page, 0xFF0, 40, 0);
     put(&mut page, 0x2FF, 40, 0x00);
-    put(&mut page, 0x303, 0x00, 0x0F);
-    put(&mut page, 0x305, 0x00, 0x0E);
-    put(&mut page, 0x307, 0x00, 0x0D);
-    put(&mut page, 0x309, 0x00, 0x0C);
+    fall(&mut page, 0x303, 0x0F, 4);
     both(b"field 0x2FF", &page);
 }
 
@@ -287,16 +267,9 @@ fn two_preludes() {
     let mut page = io::buffer();
     put(&mut page, 0xFF0, 4, 0);
     put(&mut page, 0x40, 0x04, 0x00);
-    put(&mut page, 0x44, 0x00, 0x0F);
-    put(&mut page, 0x46, 0x00, 0x0E);
-    put(&mut page, 0x48, 0x00, 0x0D);
-    put(&mut page, 0x4A, 0x00, 0x0C);
+    fall(&mut page, 0x44, 0x0F, 4);
     put(&mut page, 0x100, 0x04, 0x00);
-    put(&mut page, 0x106, 0x00, 0x0E);
-    put(&mut page, 0x108, 0x00, 0x0D);
-    put(&mut page, 0x10A, 0x00, 0x0C);
-    put(&mut page, 0x10C, 0x00, 0x0B);
-    put(&mut page, 0x10E, 0x00, 0x0A);
+    fall(&mut page, 0x106, 0x0E, 5);
     both(b"two preludes", &page);
 }
 
@@ -304,11 +277,9 @@ fn few_two_preludes() {
     let mut page = io::buffer();
     put(&mut page, 0xFF0, 2, 0);
     put(&mut page, 0x40, 0x02, 0x00);
-    put(&mut page, 0x44, 0x00, 0x0F);
-    put(&mut page, 0x46, 0x00, 0x0E);
+    fall(&mut page, 0x44, 0x0F, 2);
     put(&mut page, 0x100, 0x02, 0x00);
-    put(&mut page, 0x104, 0x00, 0x0E);
-    put(&mut page, 0x106, 0x00, 0x0D);
+    fall(&mut page, 0x104, 0x0E, 2);
     both(b"two preludes of two", &page);
 }
 
@@ -316,8 +287,7 @@ fn offsets_inside() {
     let mut page = io::buffer();
     put(&mut page, 0xFF0, 5, 0);
     put(&mut page, 0x40, 0x05, 0x00);
-    put(&mut page, 0x44, 0x00, 0x0F);
-    put(&mut page, 0x46, 0x00, 0x0E);
+    fall(&mut page, 0x44, 0x0F, 2);
     put(&mut page, 0x48, 0x4C, 0x00);
     put(&mut page, 0x4A, 0x48, 0x00);
     put(&mut page, 0x4C, 0x44, 0x00);
@@ -328,9 +298,7 @@ fn offsets_at_the_ends() {
     let mut page = io::buffer();
     put(&mut page, 0xFF0, 5, 0);
     put(&mut page, 0x40, 0x05, 0x00);
-    put(&mut page, 0x44, 0x00, 0x0F);
-    put(&mut page, 0x46, 0x00, 0x0E);
-    put(&mut page, 0x48, 0x00, 0x0D);
+    fall(&mut page, 0x44, 0x0F, 3);
     put(&mut page, 0x4A, 0x4E, 0x00);
     put(&mut page, 0x4C, 0x43, 0x00);
     both(b"offsets at the ends", &page);
@@ -338,10 +306,7 @@ fn offsets_at_the_ends() {
 
 fn scanned_inside() {
     let mut page = io::buffer();
-    put(&mut page, 0x50, 0x00, 0x0F);
-    put(&mut page, 0x52, 0x00, 0x0E);
-    put(&mut page, 0x54, 0x00, 0x0D);
-    put(&mut page, 0x56, 0x00, 0x0C);
+    fall(&mut page, 0x50, 0x0F, 4);
     put(&mut page, 0x58, 0x5A, 0x00);
     put(&mut page, 0x5A, 0x52, 0x00);
     both(b"scanned, offsets inside", &page);
