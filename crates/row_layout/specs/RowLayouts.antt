@@ -6,12 +6,12 @@ use Rattle.lists.specs.Cases.{flag}
 use Rattle.lists.specs.Bytes.{byteAt}
 use Rattle.lists.specs.Pieces.{joined}
 use Rattle.answers.specs.declared.kinds.Answer.{Answer}
-use Rattle.slotted.specs.declared.directories.Declared.{Declared}
-use Rattle.slotted.specs.declared.directories.Declared.the-variants.{Count, Scanned}
+use Rattle.slotted.specs.declared.verdicts.Declared.{Declared}
+use Rattle.slotted.specs.declared.verdicts.Declared.the-variants.{Count, Scanned}
 use Rattle.slotted.specs.declared.directories.SlotDirectory.{SlotDirectory}
 use Rattle.slotted.specs.declared.directories.Parsed.{Parsed}
+use Rattle.rows.specs.Rows.{startOf, endOf}
 use Rattle.rows.specs.declared.spans.Span.{Span}
-use Rattle.rows.specs.declared.spans.Span.the-variants.{At, NoRow}
 use Rattle.rows.specs.declared.starts.Starts.{Starts}
 use Rattle.fields.specs.Fields.{Field, little, layoutBytes}
 use Rattle.parts.specs.Parts.{answerSize, answerFields, warningSize, warningsFields}
@@ -73,16 +73,8 @@ abbrev pub rowCountBytes : Answer → ℕ → List ℕ
 rowCountBytes x n = layoutBytes (rowCountFields x n)
 
 -- where one lies; 0 and 0 of none
-abbrev pub spanStart : Span → ℕ
-spanStart (At offset end) = offset
-spanStart NoRow = 0
-
-abbrev pub spanEnd : Span → ℕ
-spanEnd (At offset end) = end
-spanEnd NoRow = 0
-
 unfoldable pub rowFields : Answer → Span → List Field
-rowFields x s = answerFields x ++ (little 2 (spanStart s) ∷ little 2 (spanEnd s) ∷ [])
+rowFields x s = answerFields x ++ (little 2 (startOf s) ∷ little 2 (endOf s) ∷ [])
 
 abbrev pub rowSize : ℕ
 rowSize = answerSize + 4

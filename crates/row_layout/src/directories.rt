@@ -3,7 +3,8 @@ ghost use mathlib.Core.Path.{_≡_};
 ghost use Rattle.numbers.specs.Writes.{Wrote};
 ghost use Rattle.fields.specs.Fields.{Put, layoutBytes};
 ghost use Rattle.parts.specs.Parts.{warningsFields};
-ghost use Rattle.row_layout.specs.RowLayouts.{declaredFlag, declaredCount, directoryFields, slotsFields, parseBytes, rowCountBytes, spanStart, spanEnd, rowBytes, rowsBytes};
+ghost use Rattle.rows.specs.Rows.{startOf, endOf};
+ghost use Rattle.row_layout.specs.RowLayouts.{declaredFlag, declaredCount, directoryFields, slotsFields, parseBytes, rowCountBytes, rowBytes, rowsBytes};
 use answers::Answer;
 use answers::Warning;
 use numbers::put_bool;
@@ -147,7 +148,7 @@ fn declared_count(d: Declared) -> usize
 }
 
 fn span_start(s: Span) -> usize
-    ensures { λ r. ⌜ r ≡ spanStart s ⌝ }
+    ensures { λ r. ⌜ r ≡ startOf s ⌝ }
 {
     match s {
         Span::At { offset, end: _ } => offset,
@@ -156,7 +157,7 @@ fn span_start(s: Span) -> usize
 }
 
 fn span_end(s: Span) -> usize
-    ensures { λ r. ⌜ r ≡ spanEnd s ⌝ }
+    ensures { λ r. ⌜ r ≡ endOf s ⌝ }
 {
     match s {
         Span::At { offset: _, end } => end,

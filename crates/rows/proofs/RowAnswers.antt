@@ -13,8 +13,8 @@ use Rattle.lists.proofs.Picks.{pick-true, pick-false}
 use Rattle.answers.specs.Answers.{isAccepted}
 use Rattle.answers.specs.declared.kinds.Answer.{Answer}
 use Rattle.rows.specs.Rows.{ascending, rowsAt, headOr, rowIn, startOf, endOf}
-use Rattle.slotted.specs.Decisions.{answerOf, startIn, countIn, decisionOf}
-use Rattle.rows.specs.RowAnswers.{rowsOf, rowOf, spanAnswer, rowAnswerOf, rowFoundOf}
+use Rattle.slotted.specs.Decisions.{answerOf, decisionOf}
+use Rattle.rows.specs.RowAnswers.{rowsIn, rowsOf, rowOf, spanAnswer, rowAnswerOf, rowFoundOf}
 use Rattle.slotted.specs.declared.verdicts.Decided.{Decided}
 use Rattle.rows.specs.declared.spans.Span.{Span}
 use Rattle.rows.specs.declared.spans.Span.the-variants.{At, NoRow}
@@ -68,10 +68,10 @@ row-within lim plain lenient r (At o e) q = let f = row-fits lim plain lenient r
 row-within lim plain lenient r NoRow q = (omega arith, omega arith)
 
 -- the rows of a decision
-pub rows-decided : (lim : ℕ) (plain : List ℕ) (lenient : Bool) (d : Decided) (start count : ℕ)
-    → d ≡ decisionOf lim plain lenient → start ≡ startIn (d .listed) → count ≡ countIn (d .listed) → rowsAt plain start count ≡ rowsOf lim plain lenient
+pub rows-decided : (lim : ℕ) (plain : List ℕ) (lenient : Bool) (d : Decided)
+    → d ≡ decisionOf lim plain lenient → rowsIn plain (d .listed) ≡ rowsOf lim plain lenient
 unfolding rowsOf
-rows-decided lim plain lenient d start count e f g = rw (f, g, e) refl
+rows-decided lim plain lenient d e = rw e refl
 
 -- what asking answers, and where the row lies
 module _ (lim number : ℕ) (plain : List ℕ) (lenient : Bool) (r : ℕ) (d : Decided) (e : d ≡ decisionOf lim plain lenient) (a : Answer) (ea : a ≡ answerOf number (d .verdict)) (b : Bool) (eb : b ≡ isAccepted a) (s : Span) (es : s ≡ rowOf lim plain lenient r) where

@@ -10,9 +10,9 @@ use Rattle.lists.specs.Bytes.{pairAt}
 use Rattle.answers.specs.declared.kinds.Answer.{Answer}
 use Rattle.slotted.specs.Directory.{slotsOf, Falls}
 use Rattle.rows.specs.Rows.{isKept, rowsAt}
-use Rattle.slotted.specs.Decisions.{answerOf, startIn, countIn, decisionOf}
+use Rattle.slotted.specs.Decisions.{answerOf, decisionOf}
 use Rattle.slotted.specs.Parses.{tableOf}
-use Rattle.rows.specs.RowAnswers.{startsBy, startsOf}
+use Rattle.rows.specs.RowAnswers.{rowsIn, startsBy, startsOf}
 use Rattle.slotted.specs.declared.verdicts.Decided.{Decided}
 use Rattle.rows.specs.declared.starts.Starts.{Starts}
 use Rattle.rows.proofs.FarEnd.{fromEnd, rows-end, end-kept, end-not}
@@ -74,8 +74,7 @@ module _ (plain : List ℕ) (start count stop k : ℕ) (items : List ℕ) (len :
       whole ∙ ap (startsBy x) (sym s)
 
 -- the whole, of a decision
-pub starts-decided : (lim number : ℕ) (plain : List ℕ) (lenient : Bool) (d : Decided) (start count : ℕ) (x : Answer)
-    → d ≡ decisionOf lim plain lenient → start ≡ startIn (d .listed) → count ≡ countIn (d .listed) → x ≡ answerOf number (d .verdict)
-    → startsBy x (rowsAt plain start count) ≡ startsOf lim number plain lenient
+pub starts-decided : (lim number : ℕ) (plain : List ℕ) (lenient : Bool) (d : Decided) (x : Answer)
+    → d ≡ decisionOf lim plain lenient → x ≡ answerOf number (d .verdict) → startsBy x (rowsIn plain (d .listed)) ≡ startsOf lim number plain lenient
 unfolding startsOf
-starts-decided lim number plain lenient d start count x e f g h = rw (rows-decided lim plain lenient d start count e f g, h, e) refl
+starts-decided lim number plain lenient d x e h = rw (rows-decided lim plain lenient d e, h, e) refl

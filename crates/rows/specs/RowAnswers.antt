@@ -7,7 +7,7 @@ use Rattle.lists.specs.Cases.{pick}
 use Rattle.answers.specs.Answers.{isAccepted}
 use Rattle.answers.specs.declared.kinds.Answer.{Answer}
 use Rattle.answers.specs.declared.kinds.Answer.the-variants as answer
-use Rattle.slotted.specs.Decisions.{answerOf, startIn, countIn, decisionOf}
+use Rattle.slotted.specs.Decisions.{answerOf, decisionOf}
 use Rattle.slotted.specs.Parses.{tableOf, parsedOf}
 use Rattle.slotted.specs.declared.verdicts.Listed.{Listed}
 use Rattle.slotted.specs.declared.verdicts.Decided.{Decided}
@@ -20,7 +20,7 @@ use Rattle.rows.specs.declared.starts.Starts.{Starts}
 
 -- the rows of what is listed
 abbrev pub rowsIn : List ℕ → Listed → List ℕ
-rowsIn plain l = rowsAt plain (startIn l) (countIn l)
+rowsIn plain l = rowsAt plain (l .start) (l .count)
 
 -- where the page's rows start, ascending; none where the parse refuses
 unfoldable pub rowsOf : ℕ → List ℕ → Bool → List ℕ

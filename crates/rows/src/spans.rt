@@ -46,7 +46,7 @@ pub fn row_found(number: u64, plain: &[u8], options: Options, r: usize) -> RowFo
     let d = decide(plain, SEARCH_LIMIT, options.directory());
     let verdict = d.verdict;
     let listed = d.listed;
-    let span = span_at(plain, listed.start(), listed.count(), r);
+    let span = span_at(plain, listed.start, listed.count, r);
     let answer = verdict.answer(number);
     if !answer.accepted() {
         return RowFound { answer, span };
@@ -66,7 +66,7 @@ pub fn rows_counted(number: u64, plain: &[u8], options: Options) -> RowsCounted
     let verdict = d.verdict;
     let listed = d.listed;
     let answer = verdict.answer(number);
-    let rows = count_at(plain, listed.start(), listed.count());
+    let rows = count_at(plain, listed.start, listed.count);
     RowsCounted { answer, rows }
 }
 
@@ -89,7 +89,7 @@ pub fn row_span(plain: &[u8], options: Options, r: usize) -> Span
 {
     let d = decide(plain, SEARCH_LIMIT, options.directory());
     let listed = d.listed;
-    span_at(plain, listed.start(), listed.count(), r)
+    span_at(plain, listed.start, listed.count, r)
 }
 
 // Row r itself: that part of the caller's slice; the empty part at 0 where there is none.

@@ -29,7 +29,7 @@ pub fn row_starts(number: u64, plain: &[u8], options: Options) -> Starts
     let verdict = d.verdict;
     let listed = d.listed;
     let answer = verdict.answer(number);
-    starts_at(plain, listed.start(), listed.count(), answer)
+    starts_at(plain, listed.start, listed.count, answer)
 }
 
 // From the directory's far end the kept offsets ascend. What has no room is left out: of a page nothing is, by Meaning.starts-all.

@@ -21,10 +21,10 @@ use Rattle.slots.proofs.Pages.{plain-zero}
 use Rattle.answers.specs.declared.notices.WarningKind.{WarningKind}
 use Rattle.answers.specs.declared.notices.WarningKind.the-variants as warning
 use Rattle.slotted.specs.Directory.{slotsOf, isInside, insideOf, tallyOf, Sound}
-use Rattle.slotted.specs.Decisions.{startIn, countIn, verdictRefused, verdictTaken, fewOf, unconfirmedOf, manyOf, foundOf, insideCheckedBy, insideChecked, decisionOf, SoundIn}
+use Rattle.slotted.specs.Decisions.{nothingListed, verdictRefused, verdictTaken, fewOf, unconfirmedOf, manyOf}
+use Rattle.slotted.specs.Decisions.{foundOf, insideCheckedBy, insideChecked, decisionOf}
 use Rattle.slotted.specs.declared.verdicts.Verdict.the-variants.{WrongLength, OffsetInside}
 use Rattle.slotted.specs.declared.verdicts.Listed.{Listed}
-use Rattle.slotted.specs.declared.verdicts.Listed.the-variants as listed
 use Rattle.slotted.specs.declared.verdicts.Inside.{Inside}
 use Rattle.slotted.specs.declared.verdicts.Decided.{Decided}
 use Rattle.slotted.proofs.Found.{scanned-sound, prelude-sound}
@@ -46,9 +46,15 @@ pub few-cut : (n found stop : ℕ) (lenient : Bool) → fewOf prelude.Missing 0 
 few-cut n found stop true = refl
 few-cut n found stop false = refl
 
-pub none-found : (lenient : Bool) (before : WarningKind) → verdictTaken listed.Nothing warning.Nothing warning.Nothing ≡ unconfirmedOf scan.Nothing lenient false before
+pub none-found :
+    (lenient : Bool) (before : WarningKind)
+    → verdictTaken nothingListed warning.Nothing warning.Nothing ≡ unconfirmedOf scan.Nothing lenient false before
 none-found true before = refl
 none-found false before = refl
+
+-- what is taken lists what was made
+pub taken-as : (l m : Listed) (first second : WarningKind) (d : Decided) → d ≡ verdictTaken l first second → l ≡ m → d ≡ verdictTaken m first second
+taken-as l m first second d e f = e ∙ ap (λ (x : Listed). verdictTaken x first second) f
 
 -- by the row count
 module _ (lim : ℕ) (plain : List ℕ) (n : ℕ) (lenient : Bool) where
@@ -96,11 +102,6 @@ module _ (lenient : Bool) (d : Decided) (end : ℕ) (l : List ℕ) (i : Inside) 
       go : (l : List ℕ) → i ≡ tallyOf l → record { verdict = d .verdict; listed = d .listed; first = d .first; second = d .second; third = warning.SlotOffsetsInDirectory (i .dropped) } ≡ insideCheckedBy true d end l
       go [] e = absurd (k (ap (λ (x : Inside). x .dropped) e))
       go (v ∷ l) e = ap (λ (x : Inside). record { verdict = d .verdict; listed = d .listed; first = d .first; second = d .second; third = warning.SlotOffsetsInDirectory (x .dropped) }) e
-
--- at the start and the count of what is listed
-pub checked-at : (plain : List ℕ) (lenient : Bool) (d : Decided) (start count : ℕ) → start ≡ startIn (d .listed) → count ≡ countIn (d .listed)
-    → insideCheckedBy lenient d (start + 2 * count) (insideOf plain start count) ≡ insideChecked plain lenient d
-checked-at plain lenient d start count e f = rw (e, f) refl
 
 -- the test, by the tests in their order
 module _ (s e v : ℕ) where
@@ -164,7 +165,7 @@ look-all plain start count stop k first dropped g h =
 
 -- what holds of no slots at 0 and of each directory that the search finds holds of what is listed
 abbrev pub ListedAs : (ℕ → ℕ → Type 0) → Listed → Type 0
-ListedAs P l = P (startIn l) (countIn l)
+ListedAs P l = P (l .start) (l .count)
 
 module _ (lim : ℕ) (plain : List ℕ) (P : ℕ → ℕ → Type 0) (none : P 0 0) (scanned : (d : Scan) → scannedDirectory lim plain ≡ scan.Directory d → P (d .start) (d .slots)) where
   unconfirmed-holds : (f : Found) → f ≡ scannedDirectory lim plain → (lenient counted : Bool) (before : WarningKind) → ListedAs P (unconfirmedOf f lenient counted before .listed)
@@ -216,20 +217,20 @@ module _ (lim : ℕ) (plain : List ℕ) (P : ℕ → ℕ → Type 0) (none : P 0
       d = foundOf lim plain (byteAt plain 0xFF0) lenient
 
       go : (b : Bool) → ListedAs P (pick b (insideChecked plain lenient d) (verdictRefused (WrongLength (length plain))) .listed)
-      go true = checked-holds d (found-holds (byteAt plain 0xFF0) declared lenient) lenient (startIn (d .listed) + 2 * countIn (d .listed)) (insideOf plain (startIn (d .listed)) (countIn (d .listed)))
+      go true =
+          checked-holds d (found-holds (byteAt plain 0xFF0) declared lenient) lenient (d .listed .start + 2 * d .listed .count)
+          (insideOf plain (d .listed .start) (d .listed .count))
       go false = none
 
 -- what is listed is sound
 none-sound : (plain : List ℕ) → Sound plain 0 0
 none-sound plain = record { within = omega arith; falls = unfold each in tt }
 
-pub found-sound : (lim : ℕ) (plain : List ℕ) (n : ℕ) (lenient : Bool) → SoundIn plain (foundOf lim plain n lenient .listed)
+pub found-sound : (lim : ℕ) (plain : List ℕ) (n : ℕ) (lenient : Bool) → ListedAs (Sound plain) (foundOf lim plain n lenient .listed)
 found-sound lim plain n lenient = found-holds lim plain (Sound plain) (none-sound plain) (scanned-sound lim plain) n (prelude-sound lim plain n) lenient
 
-pub decided-sound : (lim : ℕ) (plain : List ℕ) (lenient : Bool) → SoundIn plain (decisionOf lim plain lenient .listed)
+pub decided-sound : (lim : ℕ) (plain : List ℕ) (lenient : Bool) → ListedAs (Sound plain) (decisionOf lim plain lenient .listed)
 decided-sound lim plain lenient = decided-holds lim plain (Sound plain) (none-sound plain) (scanned-sound lim plain) (prelude-sound lim plain (byteAt plain 0xFF0)) lenient
 
--- at the start and the count of what is listed
-pub sound-decided : (lim : ℕ) (plain : List ℕ) (lenient : Bool) (d : Decided) (start count : ℕ)
-    → d ≡ decisionOf lim plain lenient → start ≡ startIn (d .listed) → count ≡ countIn (d .listed) → Sound plain start count
-sound-decided lim plain lenient d start count e f g = rw (f, g, e) (decided-sound lim plain lenient)
+pub sound-decided : (lim : ℕ) (plain : List ℕ) (lenient : Bool) (d : Decided) → d ≡ decisionOf lim plain lenient → ListedAs (Sound plain) (d .listed)
+sound-decided lim plain lenient d e = rw e (decided-sound lim plain lenient)

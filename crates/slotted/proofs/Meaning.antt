@@ -14,7 +14,7 @@ use Rattle.answers.specs.Warns.{warningNumber, noParseWarnings, withParseWarnin
 use Rattle.answers.specs.declared.notices.WarningKind.{WarningKind}
 use Rattle.answers.specs.declared.notices.ParseWarnings.{ParseWarnings}
 use Rattle.slots.specs.Slots.{searchLimit}
-use Rattle.slotted.specs.Decisions.{answerOf, countIn, decisionOf}
+use Rattle.slotted.specs.Decisions.{answerOf, decisionOf}
 use Rattle.slotted.specs.Parses.{warned, parsedOf}
 use Rattle.slotted.specs.declared.verdicts.Verdict.{Verdict}
 use Rattle.slotted.specs.declared.verdicts.Verdict.the-variants as verdict
@@ -43,7 +43,7 @@ three-warnings lim number plain lenient =
 -- ---- the tables
 
 -- at most 384 slots are listed of a page of bytes: a prelude declares at most 255, and 384 pairs stand below the limit
-pub listed-few : (plain : List ℕ) (lenient : Bool) → byteAt plain 0xFF0 < 256 → countIn (decisionOf searchLimit plain lenient .listed) ≤ 384
+pub listed-few : (plain : List ℕ) (lenient : Bool) → byteAt plain 0xFF0 < 256 → decisionOf searchLimit plain lenient .listed .count ≤ 384
 listed-few plain lenient b =
     decided-holds searchLimit plain (λ start count. count ≤ 384) (omega arith)
     (λ d e. let h : 2 * d .slots ≤ searchLimit = scanned-few searchLimit plain d e in omega arith) (λ s e. omega arith) lenient

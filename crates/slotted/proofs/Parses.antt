@@ -16,11 +16,10 @@ use Rattle.answers.specs.declared.notices.WarningKind.{WarningKind}
 use Rattle.answers.specs.declared.notices.Warning.{Warning}
 use Rattle.answers.specs.declared.notices.ParseWarnings.{ParseWarnings}
 use Rattle.slotted.specs.Directory.{slotsOf}
-use Rattle.slotted.specs.Decisions.{answerOf, startIn, countIn, decisionOf}
-use Rattle.slotted.specs.Parses.{tableOf, declaredIn, directoryOf, isListed, warned, warningsOf, parsedBy, parsedOf}
+use Rattle.slotted.specs.Decisions.{answerOf, decisionOf}
+use Rattle.slotted.specs.Parses.{tableOf, directoryOf, warned, warningsOf, parsedBy, parsedOf}
 use Rattle.slotted.specs.declared.verdicts.Listed.{Listed}
 use Rattle.slotted.specs.declared.verdicts.Decided.{Decided}
-use Rattle.slotted.specs.declared.directories.Declared.{Declared}
 use Rattle.slotted.specs.declared.directories.SlotDirectory.{SlotDirectory}
 use Rattle.slotted.specs.declared.directories.Parsed.{Parsed}
 
@@ -47,10 +46,9 @@ pub table-all : (plain : List ℕ) (start k room : ℕ) (t : List ℕ) → k ≤
 table-all plain start k room t h l q = let z : k ≡ room = omega arith in q ∙ ap (λ (x : ℕ). tableOf (slotsOf plain start x)) z
 
 -- the directory of what is listed
-pub tabled-is : (plain : List ℕ) (l : Listed) (start count : ℕ) (how : Declared) (t : List ℕ) → start ≡ startIn l → count ≡ countIn l → how ≡ declaredIn l
-    → t ≡ tableOf (slotsOf plain start (min count 384))
-    → record { «array_start» = start; end = start + 2 * count; slots = t; len = count; declared = how } ≡ directoryOf plain l
-tabled-is plain l start count how t e f g h = rw (h, g, f, e) refl
+pub tabled-is : (plain : List ℕ) (l : Listed) (t : List ℕ) → t ≡ tableOf (slotsOf plain (l .start) (min (l .count) 384))
+    → record { «array_start» = l .start; end = l .start + 2 * l .count; slots = t; len = l .count; declared = l .declared } ≡ directoryOf plain l
+tabled-is plain l t h = rw h refl
 
 -- one warning more or none
 module _ (t : ParseWarnings) (number : ℕ) (kind : WarningKind) where
@@ -106,10 +104,12 @@ module _ (lim number : ℕ) (plain : List ℕ) (lenient : Bool) (d : Decided) (e
   unfolding parsedOf
   answer-is a ea = ea ∙ ap (λ (x : Decided). answerOf number (x .verdict)) e
 
-  pub parsed-is : (a : Answer) (f : Bool) (s : SlotDirectory) (w : ParseWarnings) → a ≡ answerOf number (d .verdict) → f ≡ isListed (d .listed) → s ≡ directoryOf plain (d .listed)
-      → w ≡ warningsOf number d
-      → record { answer = a; found = f; directory = s; warnings = w } ≡ parsedOf lim number plain lenient
+  pub parsed-is :
+      (a : Answer) (s : SlotDirectory) (w : ParseWarnings)
+      → a ≡ answerOf number (d .verdict) → s ≡ directoryOf plain (d .listed) → w ≡ warningsOf number d
+      → record { answer = a; found = d .listed .found; directory = s; warnings = w } ≡ parsedOf lim number plain lenient
   unfolding parsedOf
-  parsed-is a f s w ea ef es ew =
-      let whole : _≡_ {A = Parsed} (record { answer = a; found = f; directory = s; warnings = w }) (parsedBy number plain d) = λ i. record { answer = ea i; found = ef i; directory = es i; warnings = ew i } in
+  parsed-is a s w ea es ew =
+      let whole : _≡_ {A = Parsed} (record { answer = a; found = d .listed .found; directory = s; warnings = w }) (parsedBy number plain d) =
+      λ i. record { answer = ea i; found = d .listed .found; directory = es i; warnings = ew i } in
       whole ∙ ap (parsedBy number plain) e

@@ -7,6 +7,7 @@ use lib.ListN.{length}
 use Rattle.lists.specs.Cases.{pick}
 use Rattle.lists.specs.Bytes.{byteAt}
 use Rattle.slots.specs.Slots.{scannedDirectory, preludeOf}
+use Rattle.slots.specs.declared.scans.Scan.{Scan}
 use Rattle.slots.specs.declared.scans.Found.{Found}
 use Rattle.slots.specs.declared.scans.Found.the-variants as scan
 use Rattle.slots.specs.declared.preludes.Prelude.{Prelude}
@@ -17,11 +18,11 @@ use Rattle.answers.specs.declared.kinds.Reason.{Reason}
 use Rattle.answers.specs.declared.kinds.Reason.the-variants.{CountBelowFour, FewerThanEightLive, Unconfirmed}
 use Rattle.answers.specs.declared.notices.WarningKind.{WarningKind}
 use Rattle.answers.specs.declared.notices.WarningKind.the-variants as warning
-use Rattle.slotted.specs.Directory.{insideOf, Sound}
+use Rattle.slotted.specs.Directory.{insideOf}
 use Rattle.slotted.specs.declared.verdicts.Verdict.{Verdict}
 use Rattle.slotted.specs.declared.verdicts.Verdict.the-variants.{Accepted, WrongLength, NoDirectory, NoPrelude, Truncated, Ambiguous, OffsetInside}
+use Rattle.slotted.specs.declared.verdicts.Declared.the-variants.{Count, Scanned}
 use Rattle.slotted.specs.declared.verdicts.Listed.{Listed}
-use Rattle.slotted.specs.declared.verdicts.Listed.the-variants as listed
 use Rattle.slotted.specs.declared.verdicts.Decided.{Decided}
 
 -- the answers 0, 1 and 8 to 12, each with the page number
@@ -34,20 +35,19 @@ answerOf number (Truncated found expected stop) = answer.SlotDirectoryTruncated 
 answerOf number Ambiguous = answer.AmbiguousSlotDirectory number
 answerOf number (OffsetInside offset end) = answer.SlotOffsetInDirectory number offset end
 
--- where the listed slots start, and how many they are: where nothing is listed, none at 0
-abbrev pub startIn : Listed → ℕ
-startIn listed.Nothing = 0
-startIn (listed.Declared start count) = start
-startIn (listed.Scanned start count) = start
+-- no directory; one that a prelude declares, with n slots from s on; the scan's
+abbrev pub nothingListed : Listed
+nothingListed = record { found = false; start = 0; count = 0; declared = Scanned }
 
-abbrev pub countIn : Listed → ℕ
-countIn listed.Nothing = 0
-countIn (listed.Declared start count) = count
-countIn (listed.Scanned start count) = count
+abbrev pub declaredAt : ℕ → ℕ → Listed
+declaredAt s n = record { found = true; start = s; count = n; declared = Count n }
+
+abbrev pub scannedAs : Scan → Listed
+scannedAs d = record { found = true; start = d .start; count = d .slots; declared = Scanned }
 
 -- "refusals .. drop warnings", and have no directory
 abbrev pub verdictRefused : Verdict → Decided
-verdictRefused v = record { verdict = v; listed = listed.Nothing; first = warning.Nothing; second = warning.Nothing; third = warning.Nothing }
+verdictRefused v = record { verdict = v; listed = nothingListed; first = warning.Nothing; second = warning.Nothing; third = warning.Nothing }
 
 abbrev pub verdictTaken : Listed → WarningKind → WarningKind → Decided
 verdictTaken l first second = record { verdict = Accepted; listed = l; first = first; second = second; third = warning.Nothing }
@@ -56,13 +56,13 @@ verdictTaken l first second = record { verdict = Accepted; listed = l; first = f
 -- has no directory"
 abbrev pub fewOf : Prelude → ℕ → Bool → Decided
 fewOf prelude.Missing n false = verdictRefused NoPrelude
-fewOf prelude.Missing n true = verdictTaken listed.Nothing warning.UnknownPrelude warning.Nothing
+fewOf prelude.Missing n true = verdictTaken nothingListed warning.UnknownPrelude warning.Nothing
 fewOf (prelude.Truncated found stop) n false = verdictRefused NoPrelude
-fewOf (prelude.Truncated found stop) n true = verdictTaken listed.Nothing warning.UnknownPrelude warning.Nothing
+fewOf (prelude.Truncated found stop) n true = verdictTaken nothingListed warning.UnknownPrelude warning.Nothing
 fewOf (prelude.One s) n false = verdictRefused (NoDirectory CountBelowFour)
-fewOf (prelude.One s) n true = verdictTaken (listed.Declared s n) warning.UnverifiedDirectory warning.Nothing
+fewOf (prelude.One s) n true = verdictTaken (declaredAt s n) warning.UnverifiedDirectory warning.Nothing
 fewOf prelude.Several n false = verdictRefused (NoDirectory CountBelowFour)
-fewOf prelude.Several n true = verdictTaken listed.Nothing warning.AmbiguousSlotDirectory warning.Nothing
+fewOf prelude.Several n true = verdictTaken nothingListed warning.AmbiguousSlotDirectory warning.Nothing
 
 -- the reasons of 8 that a scan gives: "2 fewer than 8 live; 3 unconfirmed". From 8 live slots on a scan counts as a directory
 abbrev pub reasonOf : ℕ → Reason
@@ -72,14 +72,14 @@ reasonOf live = pick (ltb live 8) FewerThanEightLive Unconfirmed
 -- scan's directory is used with a warning, or, if n >= 4 and there is none, 9 warns". `counted`: n is not 0
 abbrev pub unconfirmedOf : Found → Bool → Bool → WarningKind → Decided
 unconfirmedOf (scan.Directory d) false counted before = verdictRefused (NoDirectory (reasonOf (d .live)))
-unconfirmedOf (scan.Directory d) true counted before = verdictTaken (listed.Scanned (d .start) (d .slots)) before warning.UnverifiedDirectory
-unconfirmedOf scan.Nothing lenient false before = verdictTaken listed.Nothing warning.Nothing warning.Nothing
+unconfirmedOf (scan.Directory d) true counted before = verdictTaken (scannedAs d) before warning.UnverifiedDirectory
+unconfirmedOf scan.Nothing lenient false before = verdictTaken nothingListed warning.Nothing warning.Nothing
 unconfirmedOf scan.Nothing false true before = verdictRefused NoPrelude
-unconfirmedOf scan.Nothing true true before = verdictTaken listed.Nothing before warning.UnknownPrelude
+unconfirmedOf scan.Nothing true true before = verdictTaken nothingListed before warning.UnknownPrelude
 
 -- "n >= 4: one prelude is taken; none: 10 if truncated, else the scan decides ..; several: 11. Leniently .. 10 or 11 warns first"
 abbrev pub manyOf : Prelude → ℕ → Found → Bool → Decided
-manyOf (prelude.One s) n f lenient = verdictTaken (listed.Declared s n) warning.Nothing warning.Nothing
+manyOf (prelude.One s) n f lenient = verdictTaken (declaredAt s n) warning.Nothing warning.Nothing
 manyOf prelude.Missing n f lenient = unconfirmedOf f lenient true warning.Nothing
 manyOf (prelude.Truncated found stop) n f false = verdictRefused (Truncated found n stop)
 manyOf (prelude.Truncated found stop) n f true = unconfirmedOf f true true (warning.SlotDirectoryTruncated found n)
@@ -101,13 +101,9 @@ insideCheckedBy true d end (v ∷ l) =
 
 abbrev pub insideChecked : List ℕ → Bool → Decided → Decided
 insideChecked plain lenient d =
-    insideCheckedBy lenient d (startIn (d .listed) + 2 * countIn (d .listed)) (insideOf plain (startIn (d .listed)) (countIn (d .listed)))
+    insideCheckedBy lenient d (d .listed .start + 2 * d .listed .count) (insideOf plain (d .listed .start) (d .listed .count))
 
 -- the parse: 1, then where the directory is, then the offsets inside it. The row count is at 0xFF0
 unfoldable pub decisionOf : ℕ → List ℕ → Bool → Decided
 decisionOf lim plain lenient =
     pick (eqb (length plain) 4096) (insideChecked plain lenient (foundOf lim plain (byteAt plain 0xFF0) lenient)) (verdictRefused (WrongLength (length plain)))
-
--- what is listed is a directory
-abbrev pub SoundIn : List ℕ → Listed → Type 0
-SoundIn plain l = Sound plain (startIn l) (countIn l)

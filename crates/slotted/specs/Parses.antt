@@ -1,7 +1,7 @@
 -- The parse's answer: the directory with its table of 384 slots, and the warnings in a table of 386. Assumes nothing.
 use Prim.Native.Nat.{ℕ, _+_, _-_, _*_, min}
 use mathlib.Core.List.{List, _++_}
-use mathlib.Core.Bool.{Bool, true, false}
+use mathlib.Core.Bool.{Bool}
 use lib.Dec.{eqb}
 use lib.ListN.{length, replicate}
 use Rattle.lists.specs.Cases.{pick}
@@ -9,12 +9,9 @@ use Rattle.answers.specs.Warns.{warningNumber, noParseWarnings, withParseWarnin
 use Rattle.answers.specs.declared.notices.WarningKind.{WarningKind}
 use Rattle.answers.specs.declared.notices.ParseWarnings.{ParseWarnings}
 use Rattle.slotted.specs.Directory.{slotsOf}
-use Rattle.slotted.specs.Decisions.{answerOf, startIn, countIn, decisionOf}
+use Rattle.slotted.specs.Decisions.{answerOf, decisionOf}
 use Rattle.slotted.specs.declared.verdicts.Listed.{Listed}
-use Rattle.slotted.specs.declared.verdicts.Listed.the-variants as listed
 use Rattle.slotted.specs.declared.verdicts.Decided.{Decided}
-use Rattle.slotted.specs.declared.directories.Declared.{Declared}
-use Rattle.slotted.specs.declared.directories.Declared.the-variants.{Count, Scanned}
 use Rattle.slotted.specs.declared.directories.SlotDirectory.{SlotDirectory}
 use Rattle.slotted.specs.declared.directories.Parsed.{Parsed}
 
@@ -22,24 +19,15 @@ use Rattle.slotted.specs.declared.directories.Parsed.{Parsed}
 abbrev pub tableOf : List ℕ → List ℕ
 tableOf l = l ++ replicate (384 - length l) 0
 
--- the declared count, or none
-abbrev pub declaredIn : Listed → Declared
-declaredIn listed.Nothing = Scanned
-declaredIn (listed.Declared start count) = Count count
-declaredIn (listed.Scanned start count) = Scanned
-
 -- array start, end, table of slots, length, declared count or none; where nothing is listed, the blank one
-abbrev pub directoryAt : List ℕ → ℕ → ℕ → Declared → SlotDirectory
-directoryAt plain start count how =
-    record { «array_start» = start; end = start + 2 * count; slots = tableOf (slotsOf plain start (min count 384)); len = count; declared = how }
-
 abbrev pub directoryOf : List ℕ → Listed → SlotDirectory
-directoryOf plain l = directoryAt plain (startIn l) (countIn l) (declaredIn l)
-
-abbrev pub isListed : Listed → Bool
-isListed listed.Nothing = false
-isListed (listed.Declared start count) = true
-isListed (listed.Scanned start count) = true
+directoryOf plain l = record {
+  «array_start» = l .start;
+  end = l .start + 2 * l .count;
+  slots = tableOf (slotsOf plain (l .start) (min (l .count) 384));
+  len = l .count;
+  declared = l .declared;
+}
 
 -- one warning more, unless it is none
 unfoldable pub warned : ParseWarnings → ℕ → WarningKind → ParseWarnings
@@ -50,7 +38,7 @@ warningsOf number d = warned (warned (warned noParseWarnings number (d .first)) 
 
 abbrev pub parsedBy : ℕ → List ℕ → Decided → Parsed
 parsedBy number plain d =
-    record { answer = answerOf number (d .verdict); found = isListed (d .listed); directory = directoryOf plain (d .listed); warnings = warningsOf number d }
+    record { answer = answerOf number (d .verdict); found = d .listed .found; directory = directoryOf plain (d .listed); warnings = warningsOf number d }
 
 unfoldable pub parsedOf : ℕ → ℕ → List ℕ → Bool → Parsed
 parsedOf lim number plain lenient = parsedBy number plain (decisionOf lim plain lenient)

@@ -1,4 +1,5 @@
 // The parse's answer, with its tables: built once, after everything is decided.
+use crate::verdicts::Declared;
 use crate::verdicts::Listed;
 use crate::verdicts::decide;
 use crate::verdicts::slot_at;
@@ -15,15 +16,8 @@ ghost use lib.ListN.{length};
 ghost use Rattle.slots.specs.Slots.{searchLimit};
 ghost use Rattle.answers.specs.Settings.{directory};
 ghost use Rattle.answers.specs.Warns.{noParseWarnings, withParseWarning};
-ghost use Rattle.slotted.specs.Directory.{slotsOf};
-ghost use Rattle.slotted.specs.Decisions.{SoundIn};
-ghost use Rattle.slotted.specs.Parses.{tableOf, directoryOf, declaredIn, isListed, warned, parsedOf};
-
-// How the directory was found: by a prelude that declares its count, or by the scan.
-pub enum Declared {
-    Count(usize),
-    Scanned,
-}
+ghost use Rattle.slotted.specs.Directory.{slotsOf, Sound};
+ghost use Rattle.slotted.specs.Parses.{tableOf, directoryOf, warned, parsedOf};
 
 // `array_start` and `end` are byte offsets; the slots are in array order, zeros deleted ones, and 0 stands in the places past `len`.
 pub struct SlotDirectory {
@@ -53,7 +47,7 @@ pub fn parse(number: u64, plain: &[u8], options: Options) -> Parsed
     let second = d.second;
     let third = d.third;
     let answer = verdict.answer(number);
-    let found = is_listed(listed);
+    let found = listed.found;
     let directory = tabled(plain, listed);
     let warnings = given(number, first, second, third);
     Parsed {
@@ -155,34 +149,14 @@ fn three(number: u64, a: WarningKind, b: WarningKind, c: WarningKind) -> ParseWa
     table
 }
 
-fn is_listed(listed: Listed) -> bool
-    ensures { λ r. ⌜ r ≡ isListed listed ⌝ }
-{
-    match listed {
-        Listed::Nothing => false,
-        Listed::Declared { start: _, count: _ } => true,
-        Listed::Scanned { start: _, count: _ } => true,
-    }
-}
-
-fn declared_in(listed: Listed) -> Declared
-    ensures { λ r. ⌜ r ≡ declaredIn listed ⌝ }
-{
-    match listed {
-        Listed::Nothing => Declared::Scanned,
-        Listed::Declared { start: _, count } => Declared::Count(count),
-        Listed::Scanned { start: _, count: _ } => Declared::Scanned,
-    }
-}
-
 // Where nothing is listed, a directory of no slots at 0: the blank one.
 fn tabled(plain: &[u8], listed: Listed) -> SlotDirectory
-    requires { ⌜ SoundIn (now plain) listed ⌝ }
+    requires { ⌜ Sound (now plain) (listed .start) (listed .count) ⌝ }
     ensures { λ r. ⌜ r ≡ directoryOf (now (plain .entry)) listed ⌝ }
 {
-    let start = listed.start();
-    let count = listed.count();
-    let declared = declared_in(listed);
+    let start = listed.start;
+    let count = listed.count;
+    let declared = listed.declared;
     let slots = slot_table(plain, start, count);
     SlotDirectory {
         array_start: start,

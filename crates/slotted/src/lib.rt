@@ -6,13 +6,13 @@
 mod directories;
 mod verdicts;
 
-pub use directories::Declared;
 pub use directories::Parsed;
 pub use directories::SlotDirectory;
 pub use directories::no_slots;
 pub use directories::parse;
 pub use directories::parse_answer;
 pub use verdicts::Decided;
+pub use verdicts::Declared;
 pub use verdicts::Listed;
 pub use verdicts::Verdict;
 pub use verdicts::decide;

@@ -5,6 +5,7 @@ use answers::WarningKind;
 use numbers::pair;
 use slots::Found;
 use slots::Prelude;
+use slots::Scan;
 use slots::prelude_candidates;
 use slots::scanned_directory;
 ghost use mathlib.Core.Path.{_≡_};
@@ -15,9 +16,9 @@ ghost use Rattle.lists.specs.Cases.{pick};
 ghost use Rattle.lists.specs.Bytes.{pairAt};
 ghost use Rattle.slots.specs.Slots.{scannedDirectory};
 ghost use Rattle.slots.specs.declared.preludes.Prelude.the-variants.{Missing};
-ghost use Rattle.slotted.specs.Directory.{isInside, insideOf, tallyOf};
-ghost use Rattle.slotted.specs.Decisions.{answerOf, startIn, countIn, verdictRefused, verdictTaken, fewOf, reasonOf, unconfirmedOf};
-ghost use Rattle.slotted.specs.Decisions.{manyOf, foundOf, SoundIn, insideChecked, decisionOf};
+ghost use Rattle.slotted.specs.Directory.{isInside, insideOf, tallyOf, Sound};
+ghost use Rattle.slotted.specs.Decisions.{answerOf, nothingListed, declaredAt, scannedAs, verdictRefused, verdictTaken, fewOf, reasonOf, unconfirmedOf};
+ghost use Rattle.slotted.specs.Decisions.{manyOf, foundOf, insideChecked, decisionOf};
 
 pub enum Verdict {
     Accepted,
@@ -36,11 +37,18 @@ pub enum Verdict {
     },
 }
 
-// Where the slots stand, and whether a prelude declared them or a scan found them.
-pub enum Listed {
-    Nothing,
-    Declared { start: usize, count: usize },
-    Scanned { start: usize, count: usize },
+// How the directory was found: by a prelude that declares its count, or by the scan.
+pub enum Declared {
+    Count(usize),
+    Scanned,
+}
+
+// Where the slots stand, how many they are, and how they were found. Where `found` is false, none at 0.
+pub struct Listed {
+    pub found: bool,
+    pub start: usize,
+    pub count: usize,
+    pub declared: Declared,
 }
 
 // A warning that is `Nothing` is not given.
@@ -92,30 +100,6 @@ impl Verdict {
     }
 }
 
-impl Listed {
-    // Where the slots start; 0 where nothing is listed.
-    pub fn start(self) -> usize
-        ensures { λ r. ⌜ r ≡ startIn self ⌝ }
-    {
-        match self {
-            Listed::Nothing => 0,
-            Listed::Declared { start, count: _ } => start,
-            Listed::Scanned { start, count: _ } => start,
-        }
-    }
-
-    // How many slots there are: none where nothing is listed.
-    pub fn count(self) -> usize
-        ensures { λ r. ⌜ r ≡ countIn self ⌝ }
-    {
-        match self {
-            Listed::Nothing => 0,
-            Listed::Declared { start: _, count } => count,
-            Listed::Scanned { start: _, count } => count,
-        }
-    }
-}
-
 // The parse of a page, its checks in their order: the length, where the directory is, offsets inside it.
 pub fn decide(plain: &[u8], limit: usize, lenient: bool) -> Decided
     ensures { λ r. ⌜ r ≡ decisionOf limit (now (plain .entry)) lenient ⌝ }
@@ -131,9 +115,10 @@ pub fn decide(plain: &[u8], limit: usize, lenient: bool) -> Decided
 fn refuse(verdict: Verdict) -> Decided
     ensures { λ r. ⌜ r ≡ verdictRefused verdict ⌝ }
 {
+    let listed = nothing();
     Decided {
         verdict,
-        listed: Listed::Nothing,
+        listed,
         first: WarningKind::Nothing,
         second: WarningKind::Nothing,
         third: WarningKind::Nothing,
@@ -149,6 +134,39 @@ fn take(listed: Listed, first: WarningKind, second: WarningKind) -> Decided
         first,
         second,
         third: WarningKind::Nothing,
+    }
+}
+
+fn nothing() -> Listed
+    ensures { λ r. ⌜ r ≡ nothingListed ⌝ }
+{
+    Listed {
+        found: false,
+        start: 0,
+        count: 0,
+        declared: Declared::Scanned,
+    }
+}
+
+fn declared_at(start: usize, count: usize) -> Listed
+    ensures { λ r. ⌜ r ≡ declaredAt start count ⌝ }
+{
+    Listed {
+        found: true,
+        start,
+        count,
+        declared: Declared::Count(count),
+    }
+}
+
+fn scanned_as(d: Scan) -> Listed
+    ensures { λ r. ⌜ r ≡ scannedAs d ⌝ }
+{
+    Listed {
+        found: true,
+        start: d.start,
+        count: d.slots,
+        declared: Declared::Scanned,
     }
 }
 
@@ -181,7 +199,7 @@ fn few(found: Prelude, n: usize, lenient: bool) -> Decided
         Prelude::One(start) => {
             if lenient {
                 return take(
-                    Listed::Declared { start, count: n },
+                    declared_at(start, n),
                     WarningKind::UnverifiedDirectory,
                     WarningKind::Nothing,
                 );
@@ -191,7 +209,7 @@ fn few(found: Prelude, n: usize, lenient: bool) -> Decided
         Prelude::Several => {
             if lenient {
                 return take(
-                    Listed::Nothing,
+                    nothing(),
                     WarningKind::AmbiguousSlotDirectory,
                     WarningKind::Nothing,
                 );
@@ -205,11 +223,7 @@ fn few_none(lenient: bool) -> Decided
     ensures { λ r. ⌜ r ≡ fewOf Missing 0 lenient ⌝ }
 {
     if lenient {
-        return take(
-            Listed::Nothing,
-            WarningKind::UnknownPrelude,
-            WarningKind::Nothing,
-        );
+        return take(nothing(), WarningKind::UnknownPrelude, WarningKind::Nothing);
     }
     refuse(Verdict::NoPrelude)
 }
@@ -220,7 +234,7 @@ fn many(plain: &[u8], limit: usize, found: Prelude, n: usize, lenient: bool) -> 
 {
     match found {
         Prelude::One(start) => take(
-            Listed::Declared { start, count: n },
+            declared_at(start, n),
             WarningKind::Nothing,
             WarningKind::Nothing,
         ),
@@ -266,23 +280,16 @@ fn unconfirmed(found: Found, lenient: bool, counted: bool, before: WarningKind) 
     match found {
         Found::Directory(d) => {
             if lenient {
-                return take(
-                    Listed::Scanned {
-                        start: d.start,
-                        count: d.slots,
-                    },
-                    before,
-                    WarningKind::UnverifiedDirectory,
-                );
+                return take(scanned_as(d), before, WarningKind::UnverifiedDirectory);
             }
             refuse(Verdict::NoDirectory(reason(d.live)))
         }
         Found::Nothing => {
             if !counted {
-                return take(Listed::Nothing, WarningKind::Nothing, WarningKind::Nothing);
+                return take(nothing(), WarningKind::Nothing, WarningKind::Nothing);
             }
             if lenient {
-                return take(Listed::Nothing, before, WarningKind::UnknownPrelude);
+                return take(nothing(), before, WarningKind::UnknownPrelude);
             }
             refuse(Verdict::NoPrelude)
         }
@@ -301,12 +308,12 @@ fn reason(live: usize) -> Reason
 
 // Offsets inside the directory refuse the page, or are dropped with one warning.
 fn check_inside(plain: &[u8], lenient: bool, d: Decided) -> Decided
-    requires { ⌜ SoundIn (now plain) (d .listed) ⌝ }
+    requires { ⌜ Sound (now plain) (d .listed .start) (d .listed .count) ⌝ }
     ensures { λ r. ⌜ r ≡ insideChecked (now (plain .entry)) lenient d ⌝ }
 {
     let listed = d.listed;
-    let start = listed.start();
-    let count = listed.count();
+    let start = listed.start;
+    let count = listed.count;
     let inside = inside_at(plain, start, count);
     if inside.dropped == 0 {
         return d;

@@ -13,21 +13,19 @@ use Rattle.rows.proofs.spans.row_found.Tie as tie
 
 span-at-requires : tie.Need-span-at-requires
 span-at-requires c κs =
-    let d = c .before .before in
-    sound-decided searchLimit _ _ (d .decide .result) _ _ (d .decide .ensures) (c .before .start .ensures) (c .count .ensures)
+    let d = c .before in
+    sound-decided searchLimit _ _ (d .decide .result) (d .decide .ensures)
 
 returns : tie.Need-returns
 returns c =
     let b = c .before in
     let v = b .before in
     let w = v .before in
-    let n = w .before in
-    let s = n .before in
-    let d = s .before in
+    let d = w .before .before in
     let a = d .before .before .before .args in
     let e = d .decide .ensures ∙ ap (decisionOf searchLimit (a .plain .now)) (d .before .directory .ensures) in
     found-refused searchLimit (a .number) (a .plain .now) (directory (a .options)) (a .r) (d .decide .result) e (v .answer .result) (v .answer .ensures) (b .accepted .result) (b .accepted .ensures) (w .span-at .result)
-    (w .span-at .ensures ∙ ap (rowIn (a .r)) (rows-decided searchLimit (a .plain .now) (directory (a .options)) (d .decide .result) (s .start .result) (n .count .result) e (s .start .ensures) (n .count .ensures)))
+    (w .span-at .ensures ∙ ap (rowIn (a .r)) (rows-decided searchLimit (a .plain .now) (directory (a .options)) (d .decide .result) e))
     (not-true _ (c .if1 .taken))
 
 returns-2 : tie.Need-returns-2
@@ -35,14 +33,22 @@ returns-2 c =
     let b = c .before .before in
     let v = b .before in
     let w = v .before in
-    let n = w .before in
-    let s = n .before in
-    let d = s .before in
+    let d = w .before .before in
     let a = d .before .before .before .args in
     let e = d .decide .ensures ∙ ap (decisionOf searchLimit (a .plain .now)) (d .before .directory .ensures) in
     found-row searchLimit (a .number) (a .plain .now) (directory (a .options)) (a .r) (d .decide .result) e (v .answer .result) (v .answer .ensures) (b .accepted .result) (b .accepted .ensures) (w .span-at .result)
-    (w .span-at .ensures ∙ ap (rowIn (a .r)) (rows-decided searchLimit (a .plain .now) (directory (a .options)) (d .decide .result) (s .start .result) (n .count .result) e (s .start .ensures) (n .count .ensures)))
+    (w .span-at .ensures ∙ ap (rowIn (a .r)) (rows-decided searchLimit (a .plain .now) (directory (a .options)) (d .decide .result) e))
     (c .span-answer .result) (not-false _ (c .before .if1 .left)) (c .span-answer .ensures)
 
 pub row-found-spec : {M : Type 1} → statement M
-row-found-spec = tie.close (tie.spec (λ c κs. search needs) (λ c κs. search needs) (λ c κs. search needs) (λ c κs. search needs) span-at-requires (λ c κs. search needs) (λ c κs. search needs) returns (λ c κs. search needs) returns-2)
+row-found-spec =
+    tie.close
+    (tie.spec
+    (λ c κs. search needs)
+    (λ c κs. search needs)
+    span-at-requires
+    (λ c κs. search needs)
+    (λ c κs. search needs)
+    returns
+    (λ c κs. search needs)
+    returns-2)

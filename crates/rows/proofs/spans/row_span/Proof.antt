@@ -12,17 +12,15 @@ use Rattle.rows.proofs.spans.row_span.Tie as tie
 
 span-at-requires : tie.Need-span-at-requires
 span-at-requires c κs =
-    let d = c .before .before in
-    sound-decided searchLimit _ _ (d .decide .result) _ _ (d .decide .ensures) (c .before .start .ensures) (c .count .ensures)
+    let d = c .before in
+    sound-decided searchLimit _ _ (d .decide .result) (d .decide .ensures)
 
 returns : tie.Need-returns
 returns c =
-    let n = c .before in
-    let s = n .before in
-    let d = s .before in
+    let d = c .before .before in
     let a = d .before .before .before .args in
     let e = d .decide .ensures ∙ ap (decisionOf searchLimit (a .plain .now)) (d .before .directory .ensures) in
-    c .span-at .ensures ∙ ap (rowIn (a .r)) (rows-decided searchLimit (a .plain .now) (directory (a .options)) (d .decide .result) (s .start .result) (n .count .result) e (s .start .ensures) (n .count .ensures))
+    c .span-at .ensures ∙ ap (rowIn (a .r)) (rows-decided searchLimit (a .plain .now) (directory (a .options)) (d .decide .result) e)
 
 pub row-span-spec : {M : Type 1} → statement M
-row-span-spec = tie.close (tie.spec (λ c κs. search needs) (λ c κs. search needs) (λ c κs. search needs) (λ c κs. search needs) span-at-requires returns)
+row-span-spec = tie.close (tie.spec (λ c κs. search needs) (λ c κs. search needs) span-at-requires returns)

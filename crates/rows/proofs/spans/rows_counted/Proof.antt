@@ -13,20 +13,18 @@ use Rattle.rows.proofs.spans.rows_counted.Tie as tie
 
 count-at-requires : tie.Need-count-at-requires
 count-at-requires c κs =
-    let d = c .before .before .before in
-    sound-decided searchLimit _ _ (d .decide .result) _ _ (d .decide .ensures) (c .before .start .ensures) (c .count .ensures)
+    let d = c .before .before in
+    sound-decided searchLimit _ _ (d .decide .result) (d .decide .ensures)
 
 returns : tie.Need-returns
 returns c =
-    let n = c .before in
-    let s = n .before in
-    let v = s .before in
-    let d = v .before in
+    let v = c .before in
+    let d = v .before .before in
     let a = d .before .before .before .args in
     let e = d .decide .ensures ∙ ap (decisionOf searchLimit (a .plain .now)) (d .before .directory .ensures) in
     let x = answer-is searchLimit (a .number) (a .plain .now) (directory (a .options)) (d .decide .result) e (v .answer .result) (v .answer .ensures) in
-    let y = c .count-at .ensures ∙ ap length (rows-decided searchLimit (a .plain .now) (directory (a .options)) (d .decide .result) (s .start .result) (n .count .result) e (s .start .ensures) (n .count .ensures)) in
+    let y = c .count-at .ensures ∙ ap length (rows-decided searchLimit (a .plain .now) (directory (a .options)) (d .decide .result) e) in
     λ i. record { answer = x i; rows = y i }
 
 pub rows-counted-spec : {M : Type 1} → statement M
-rows-counted-spec = tie.close (tie.spec (λ c κs. search needs) (λ c κs. search needs) (λ c κs. search needs) (λ c κs. search needs) (λ c κs. search needs) count-at-requires returns)
+rows-counted-spec = tie.close (tie.spec (λ c κs. search needs) (λ c κs. search needs) (λ c κs. search needs) count-at-requires returns)

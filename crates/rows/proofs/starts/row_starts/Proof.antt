@@ -11,19 +11,17 @@ use Rattle.rows.proofs.starts.row_starts.Tie as tie
 
 starts-at-requires : tie.Need-starts-at-requires
 starts-at-requires c κs =
-    let d = c .before .before .before in
-    sound-decided searchLimit _ _ (d .decide .result) _ _ (d .decide .ensures) (c .before .start .ensures) (c .count .ensures)
+    let d = c .before .before in
+    sound-decided searchLimit _ _ (d .decide .result) (d .decide .ensures)
 
 returns : tie.Need-returns
 returns c =
-    let n = c .before in
-    let s = n .before in
-    let v = s .before in
-    let d = v .before in
+    let v = c .before in
+    let d = v .before .before in
     let a = d .before .before .before .args in
     let e = d .decide .ensures ∙ ap (decisionOf searchLimit (a .plain .now)) (d .before .directory .ensures) in
     c .starts-at .ensures
-    ∙ starts-decided searchLimit (a .number) (a .plain .now) (directory (a .options)) (d .decide .result) (s .start .result) (n .count .result) (v .answer .result) e (s .start .ensures) (n .count .ensures) (v .answer .ensures)
+    ∙ starts-decided searchLimit (a .number) (a .plain .now) (directory (a .options)) (d .decide .result) (v .answer .result) e (v .answer .ensures)
 
 pub row-starts-spec : {M : Type 1} → statement M
-row-starts-spec = tie.close (tie.spec (λ c κs. search needs) (λ c κs. search needs) (λ c κs. search needs) (λ c κs. search needs) (λ c κs. search needs) starts-at-requires returns)
+row-starts-spec = tie.close (tie.spec (λ c κs. search needs) (λ c κs. search needs) (λ c κs. search needs) starts-at-requires returns)

@@ -1,15 +1,19 @@
 -- `few` meets its contract, by what the search found and the leniency.
 use mathlib.Core.Path.{_∙_}
-use Rattle.slotted.proofs.Decisions.{few-missing, few-cut}
+use Rattle.slotted.proofs.Decisions.{taken-as, few-missing, few-cut}
 use borrow.Author.Needs.{needs}
 use Rattle.slotted.proofs.verdicts.few.Statement.{statement}
 use Rattle.slotted.proofs.verdicts.few.Tie as tie
 
 returns : tie.Need-returns
-returns c = rw (c .before .before .before .found .given .1, c .before .if1 .taken) (c .take .ensures)
+returns c =
+    let l = c .before in
+    rw (l .before .before .before .found .given .1, l .before .if1 .taken) (taken-as _ _ _ _ _ (c .take .ensures) (l .declared-at .ensures))
 
 returns-2 : tie.Need-returns-2
-returns-2 c = rw (c .before .before .enum-told3 .given .1, c .before .if2 .taken) (c .take2 .ensures)
+returns-2 c =
+    let l = c .before in
+    rw (l .before .before .enum-told3 .given .1, l .before .if2 .taken) (taken-as _ _ _ _ _ (c .take2 .ensures) (l .nothing .ensures))
 
 returns-3 : tie.Need-returns-3
 returns-3 c =
@@ -38,9 +42,11 @@ few-spec =
     (λ c κs. search needs)
     (λ c. search needs)
     (λ c κs. search needs)
+    (λ c κs. search needs)
     returns
     (λ c κs. search needs)
     (λ c. search needs)
+    (λ c κs. search needs)
     (λ c κs. search needs)
     returns-2
     (λ c κs. search needs)

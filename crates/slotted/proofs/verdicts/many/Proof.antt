@@ -6,7 +6,7 @@ use mathlib.Core.Bool.{true}
 use Rattle.slots.specs.declared.scans.Found.{Found}
 use Rattle.answers.specs.declared.notices.WarningKind.the-variants as warning
 use Rattle.slotted.specs.Decisions.{unconfirmedOf}
-use Rattle.slotted.proofs.Decisions.{scanned-plain}
+use Rattle.slotted.proofs.Decisions.{taken-as, scanned-plain}
 use borrow.Author.Needs.{needs}
 use Rattle.slotted.proofs.verdicts.many.Statement.{statement}
 use Rattle.slotted.proofs.verdicts.many.Tie as tie
@@ -18,7 +18,9 @@ returns-2 : tie.Need-returns-2
 returns-2 c = rw (c .before .before .enum-told2 .given .1, not-true (c .before .before .before .before .before .args .lenient) (c .before .if2 .taken)) (c .refuse2 .ensures)
 
 returns-3 : tie.Need-returns-3
-returns-3 c = rw (c .before .before .found .given .1) (c .take .ensures)
+returns-3 c =
+    let l = c .before in
+    rw (l .before .before .found .given .1) (taken-as _ _ _ _ _ (c .take .ensures) (l .declared-at .ensures))
 
 returns-4 : tie.Need-returns-4
 returns-4 c =
@@ -51,6 +53,7 @@ many-spec =
     tie.close
     (tie.spec
     (λ c. search needs)
+    (λ c κs. search needs)
     (λ c κs. search needs)
     (λ c. search needs)
     (λ c κs. search needs)
