@@ -29,6 +29,7 @@ use Rattle.summary.specs.declared.pages.PageScan.{PageScan}
 use Rattle.slots.specs.Slots.{searchLimit}
 use Rattle.slotted.specs.Parses.{parsedOf}
 use Rattle.slotted.specs.declared.directories.Parsed.{Parsed}
+use Rattle.rows.specs.Rows.{startOf, endOf}
 use Rattle.rows.specs.RowAnswers.{startsOf}
 use Rattle.rows.specs.declared.spans.Span.{Span}
 use Rattle.rows.specs.declared.starts.Starts.{Starts}
@@ -45,7 +46,7 @@ use Rattle.parts.proofs.Sizes.{answer-size}
 use Rattle.layout.specs.Layouts.{recordFields, trailerFields, trailerSize, headerFields, superblockFields, superblockSize}
 use Rattle.layout.specs.Layouts.{summaryFields, scanSize, choiceFields, decodingFields, decodingSize}
 use Rattle.layout.proofs.Sizes.{trailer-size, superblock-size, summary-size, decoding-size}
-use Rattle.row_layout.specs.RowLayouts.{directoryFields, slotsFields, parseFields, parseSize, rowCountFields, rowCountSize, spanStart, spanEnd, rowFields, rowSize}
+use Rattle.row_layout.specs.RowLayouts.{directoryFields, slotsFields, parseFields, parseSize, rowCountFields, rowCountSize, rowFields, rowSize}
 use Rattle.row_layout.specs.RowLayouts.{rowsFields, rowsSize}
 use Rattle.row_layout.proofs.Sizes.{parse-size, row-count-size, row-size, rows-size}
 use Rattle.lumeviqo.specs.Calls.{hasRoom, toldIf, ScanCall, ReplaceCall, DecodingCall}
@@ -188,7 +189,7 @@ row-count-starts x n = record { rest = little 2 n ∷ []; front = refl; size = r
 
 row-starts : (x : Answer) (s : Span) → StartsWith rowSize x (rowFields x s)
 unfolding rowFields
-row-starts x s = record { rest = little 2 (spanStart s) ∷ little 2 (spanEnd s) ∷ []; front = refl; size = row-size x s }
+row-starts x s = record { rest = little 2 (startOf s) ∷ little 2 (endOf s) ∷ []; front = refl; size = row-size x s }
 
 rows-starts : (s : Starts) → StartsWith rowsSize (s .answer) (rowsFields s)
 unfolding rowsFields

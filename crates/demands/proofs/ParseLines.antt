@@ -22,7 +22,7 @@ use Rattle.slots.specs.declared.scans.Found.the-variants as scan
 use Rattle.slots.specs.declared.preludes.Prelude.{Prelude}
 use Rattle.slots.specs.declared.preludes.Prelude.the-variants as prelude
 use Rattle.slotted.specs.Directory.{insideOf}
-use Rattle.slotted.specs.Decisions.{answerOf, startIn, countIn, verdictRefused, verdictTaken, fewOf, reasonOf, unconfirmedOf, manyOf, foundOf, insideCheckedBy, insideChecked, decisionOf}
+use Rattle.slotted.specs.Decisions.{answerOf, verdictRefused, verdictTaken, fewOf, reasonOf, unconfirmedOf, manyOf, foundOf, insideCheckedBy, insideChecked, decisionOf}
 use Rattle.slotted.specs.Parses.{warned, parsedBy}
 use Rattle.slotted.specs.declared.verdicts.Verdict.{Verdict}
 use Rattle.slotted.specs.declared.verdicts.Verdict.the-variants as verdict
@@ -133,30 +133,30 @@ module _ (lines : List Line) (lim number : ℕ) (plain : List ℕ) (h : HasParse
   -- offsets inside the directory
   on-inside : (lenient : Bool) → Settles lines number (insideChecked plain lenient (foundOf lim plain n lenient))
   unfolding offsetAt endAt
-  on-inside false = go (insideOf plain (startIn (d .listed)) (countIn (d .listed))) refl
+  on-inside false = go (insideOf plain (d .listed .start) (d .listed .count)) refl
     where
       d : Decided
       d = foundOf lim plain n false
 
       end : ℕ
-      end = startIn (d .listed) + 2 * countIn (d .listed)
+      end = d .listed .start + 2 * d .listed .count
 
-      go : (l : List ℕ) → insideOf plain (startIn (d .listed)) (countIn (d .listed)) ≡ l → Settles lines number (insideCheckedBy false d end l)
+      go : (l : List ℕ) → insideOf plain (d .listed .start) (d .listed .count) ≡ l → Settles lines number (insideCheckedBy false d end l)
       go [] e = on-found false
       go (v ∷ l) e = refused-is (verdict.OffsetInside v end) (h .twelve ∙ ap (λ (x : List ℕ). (number ∷ headOr 0 x ∷ end ∷ []) ∷ []) e)
-  on-inside true = go (insideOf plain (startIn (d .listed)) (countIn (d .listed))) refl
+  on-inside true = go (insideOf plain (d .listed .start) (d .listed .count)) refl
     where
       d : Decided
       d = foundOf lim plain n true
 
       -- nothing lies inside a directory that is not there
-      nothing : isAccepted (answerOf number (d .verdict)) ≡ false → insideOf plain (startIn (d .listed)) (countIn (d .listed)) ≡ []
-      nothing q = ap (λ (x : Decided). insideOf plain (startIn (x .listed)) (countIn (x .listed))) (on-found true .quiet q) ∙ none-inside plain
+      nothing : isAccepted (answerOf number (d .verdict)) ≡ false → insideOf plain (d .listed .start) (d .listed .count) ≡ []
+      nothing q = ap (λ (x : Decided). insideOf plain (x .listed .start) (x .listed .count)) (on-found true .quiet q) ∙ none-inside plain
 
       go :
           (l : List ℕ)
-          → insideOf plain (startIn (d .listed)) (countIn (d .listed)) ≡ l
-          → Settles lines number (insideCheckedBy true d (startIn (d .listed) + 2 * countIn (d .listed)) l)
+          → insideOf plain (d .listed .start) (d .listed .count) ≡ l
+          → Settles lines number (insideCheckedBy true d (d .listed .start + 2 * d .listed .count) l)
       go [] e = on-found true
       go (v ∷ l) e =
           record {

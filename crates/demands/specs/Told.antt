@@ -18,7 +18,7 @@ use Rattle.slots.specs.declared.scans.Found.the-variants as scan
 use Rattle.slots.specs.declared.preludes.Prelude.{Prelude}
 use Rattle.slots.specs.declared.preludes.Prelude.the-variants as prelude
 use Rattle.slotted.specs.Directory.{insideOf}
-use Rattle.slotted.specs.Decisions.{startIn, countIn, foundOf}
+use Rattle.slotted.specs.Decisions.{foundOf}
 use Rattle.slotted.specs.declared.verdicts.Listed.{Listed}
 use Rattle.rows.specs.Rows.{headOr}
 use Rattle.votes.specs.Votes.{countsOf, topOf}
@@ -91,10 +91,10 @@ abbrev pub listedAt : ℕ → List ℕ → Listed
 listedAt lim plain = foundOf lim plain (rowCount plain) false .listed
 
 unfoldable pub offsetAt : ℕ → List ℕ → ℕ
-offsetAt lim plain = headOr 0 (insideOf plain (startIn (listedAt lim plain)) (countIn (listedAt lim plain)))
+offsetAt lim plain = headOr 0 (insideOf plain ((listedAt lim plain) .start) ((listedAt lim plain) .count))
 
 unfoldable pub endAt : ℕ → List ℕ → ℕ
-endAt lim plain = startIn (listedAt lim plain) + 2 * countIn (listedAt lim plain)
+endAt lim plain = (listedAt lim plain) .start + 2 * (listedAt lim plain) .count
 
 abbrev pub parseLines : ℕ → ℕ → List ℕ → List Line
 parseLines lim number plain =

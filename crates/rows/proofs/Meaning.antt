@@ -1,26 +1,20 @@
--- What the rows come to: they follow one another without a gap up to 0xFF0; they fit their table; the numbers of the answers. Assumes nothing.
+-- What the rows come to: they follow one another without a gap up to 0xFF0; they fit their table. Assumes nothing.
 use Prim.Native.Nat.{ℕ, zero, suc, _+_, _*_, _≤_, _<_}
-use mathlib.Core.Path.{_≡_, refl, ap}
+use mathlib.Core.Path.{_≡_, ap}
 use mathlib.Core.List.{List, [], _∷_}
-use mathlib.Core.Bool.{Bool, true}
+use mathlib.Core.Bool.{Bool}
 use native.Mathlib.Omega.{arith}
 use lib.ListN.{length}
 use lib.Seq.{take-all}
 use Rattle.lists.specs.Bytes.{byteAt, pairAt}
-use Rattle.lists.specs.Counts.{isIn}
 use Rattle.lists.proofs.Each.{each-length}
 use Rattle.lists.proofs.Keep.{keep-le}
-use Rattle.lists.proofs.Picks.{pick-case}
-use Rattle.answers.specs.Answers.{numberOf, isAccepted}
-use Rattle.answers.specs.declared.kinds.Answer.{Answer}
 use Rattle.slots.specs.Slots.{searchLimit}
 use Rattle.slotted.specs.Directory.{slotsOf}
-use Rattle.slotted.specs.Decisions.{answerOf, decisionOf}
 use Rattle.slotted.specs.Parses.{tableOf}
-use Rattle.slotted.specs.declared.verdicts.Verdict.{Verdict}
-use Rattle.slotted.proofs.Meaning.{listed-few, verdict-in}
+use Rattle.slotted.proofs.Meaning.{listed-few}
 use Rattle.rows.specs.Rows.{isKept, rowsAt, rowIn}
-use Rattle.rows.specs.RowAnswers.{rowsIn, rowsOf, rowOf, spanAnswer, rowAnswerOf, startsOf}
+use Rattle.rows.specs.RowAnswers.{rowsOf, rowOf, startsOf}
 use Rattle.rows.specs.declared.spans.Span.{Span}
 use Rattle.rows.specs.declared.spans.Span.the-variants.{At, NoRow}
 use Rattle.rows.proofs.FarEnd.{rows-length}
@@ -69,23 +63,3 @@ rows-fit plain lenient b = rows-at plain _ _ (listed-few plain lenient b)
 pub starts-all : (number : ℕ) (plain : List ℕ) (lenient : Bool) → byteAt plain 0xFF0 < 256 → startsOf searchLimit number plain lenient .items ≡ tableOf (rowsOf searchLimit plain lenient)
 unfolding startsOf
 starts-all number plain lenient b = ap tableOf (take-all 384 (rowsOf searchLimit plain lenient) (rows-fit plain lenient b))
-
--- ---- the numbers of the answers
-
--- asking for a row gives those or 16
-abbrev rowNumbers : List ℕ
-rowNumbers = 0 ∷ 1 ∷ 8 ∷ 9 ∷ 10 ∷ 11 ∷ 12 ∷ 16 ∷ []
-
-span-number : (r : ℕ) (s : Span) → isIn (numberOf (spanAnswer r s)) rowNumbers ≡ true
-unfolding isIn
-span-number r (At o e) = refl
-span-number r NoRow = refl
-
-pub row-number : (lim number : ℕ) (plain : List ℕ) (lenient : Bool) (r : ℕ) → isIn (numberOf (rowAnswerOf lim number plain lenient r)) (0 ∷ 1 ∷ 8 ∷ 9 ∷ 10 ∷ 11 ∷ 12 ∷ 16 ∷ []) ≡ true
-unfolding rowAnswerOf isIn
-row-number lim number plain lenient r =
-    let v : Verdict = decisionOf lim plain lenient .verdict in
-    let x : Answer = answerOf number v in
-    pick-case (λ (a : Answer). isIn (numberOf a) rowNumbers ≡ true) (isAccepted x) (spanAnswer r (rowIn r (rowsIn plain (decisionOf lim plain lenient .listed)))) x
-    (λ e. span-number r (rowIn r (rowsIn plain (decisionOf lim plain lenient .listed))))
-    (λ e. verdict-in rowNumbers number v refl refl refl refl refl refl refl)

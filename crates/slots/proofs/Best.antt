@@ -10,7 +10,7 @@ use native.Mathlib.Nat.{not-suc-le-zero, eq-or-lt-of-le, le-of-suc-le-suc}
 use lib.Dec.{leb}
 use borrow.Author.Tests.{leb-true, leb-false}
 use Rattle.lists.specs.Cases.{pick}
-use Rattle.slots.specs.Slots.{scanFrom, stronger, noScan, bestScan, directoryOf, scannedDirectory}
+use Rattle.slots.specs.Slots.{scanFrom, stronger, noScan, bestScan, directoryFrom, scannedDirectory}
 use Rattle.slots.specs.Best.{More, Not-more, Best}
 use Rattle.slots.specs.declared.scans.Scan.{Scan}
 use Rattle.slots.specs.declared.scans.Found.{Found}
@@ -70,7 +70,7 @@ module _ (lim : ℕ) (p : List ℕ) where
 
   -- the theorem
   pub scanned-best : (d : Scan) → scannedDirectory lim p ≡ Directory d → Best lim p lim d × (4 ≤ d .live)
-  unfolding scannedDirectory directoryOf None-yet
+  unfolding scannedDirectory directoryFrom None-yet
   scanned-best d q = go (leb 4 (bestScan lim p lim .live)) refl (best-is lim) q
     where
       b : Scan
@@ -93,7 +93,7 @@ module _ (lim : ℕ) (p : List ℕ) where
       go true k (inr h) z = subst (λ (x : Scan). Best lim p lim x × (4 ≤ x .live)) (ap is z) (h, leb-true 4 (b .live) k)
 
   pub scanned-nothing : scannedDirectory lim p ≡ Nothing → (s : ℕ) → s < lim → scanFrom lim p s .live < 4
-  unfolding scannedDirectory directoryOf None-yet
+  unfolding scannedDirectory directoryFrom None-yet
   scanned-nothing q s l = go (leb 4 (bestScan lim p lim .live)) refl (best-is lim) q
     where
       b : Scan

@@ -10,7 +10,7 @@ use lib.Dec.{ltb, leb, eqb}
 use borrow.Author.Tests.{ltb-true, ltb-false, eqb-true, eqb-false, leb-true, leb-false}
 use Rattle.lists.specs.Bytes.{plainOf, pairAt}
 use Rattle.lists.proofs.Plain.{plain-length}
-use Rattle.slots.specs.Slots.{isOffset, words, wordsFrom, opening, slotsAt, trim, liveOf, arrayStart, scanAt, scanFrom, stronger, bestScan, directoryOf, scannedDirectory}
+use Rattle.slots.specs.Slots.{isOffset, words, wordsFrom, opening, slotsAt, trim, liveOf, arrayStart, scanAt, scanFrom, stronger, bestScan, directoryFrom, scannedDirectory}
 use Rattle.slots.specs.Sweep.{emptyScan}
 use Rattle.slots.specs.declared.scans.Scan.{Scan}
 use Rattle.slots.specs.declared.scans.Found.{Found}
@@ -103,7 +103,7 @@ pub scanned-past : (lim : ℕ) (p : List ℕ) → length p ≤ lim → scannedDi
 unfolding scannedDirectory
 scanned-past lim p h =
     let e : length p + (lim - length p) ≡ lim = omega arith in
-    ap directoryOf (sym (best-past (length p) p (lim - length p)) ∙ ap (bestScan (length p) p) e ∙ sym (best-within lim p h lim))
+    ap directoryFrom (sym (best-past (length p) p (lim - length p)) ∙ ap (bestScan (length p) p) e ∙ sym (best-within lim p h lim))
 
 pub scanned-end : (lim bv : ℕ) (xs : List ℕ) (r : Found) → length xs ≤ lim → r ≡ scannedDirectory (length xs) (plainOf bv xs) → r ≡ scannedDirectory lim (plainOf bv xs)
 scanned-end lim bv xs r h e =

@@ -12,7 +12,7 @@ use borrow.Author.Tests.{ltb-true, leb-true}
 use Rattle.lists.specs.Cases.{pick}
 use Rattle.lists.specs.Bytes.{less, plainOf, byteAt, pairAt}
 use Rattle.lists.proofs.Plain.{plain-length, plain-at}
-use Rattle.slots.specs.Slots.{isOffset, words, wordsFrom, opening, slotsAt, trim, liveOf, arrayStart, scanAt, scanFrom, stronger, bestScan, directoryOf, scannedDirectory, countedBack, counted, rowCountMatches, dataEnd, declaredSlots, runOf, noted, gapNoted, fieldNoted, preludeOf}
+use Rattle.slots.specs.Slots.{isOffset, words, wordsFrom, opening, slotsAt, trim, liveOf, arrayStart, scanAt, scanFrom, stronger, bestScan, directoryFrom, scannedDirectory, countedBack, counted, rowCountMatches, dataEnd, declaredSlots, runOf, noted, gapNoted, fieldNoted, preludeOf}
 use Rattle.slots.specs.declared.scans.Scan.{Scan}
 use Rattle.slots.specs.declared.scans.Found.{Found}
 use Rattle.slots.specs.declared.scans.Found.the-variants.{Directory, Nothing}
@@ -65,7 +65,7 @@ module _ (a b : List ℕ) where
 
   pub scanned-data : (lim : ℕ) → lim ≤ length a → scannedDirectory lim (a ++ b) ≡ scannedDirectory lim a
   unfolding scannedDirectory
-  scanned-data lim le = ap directoryOf (best-data lim lim le)
+  scanned-data lim le = ap directoryFrom (best-data lim lim le)
 
   back-data : (start n back : ℕ) → start ≤ length a + 1 → 4 ≤ back → countedBack (a ++ b) start n back ≡ countedBack a start n back
   unfolding countedBack

@@ -13,7 +13,7 @@ use borrow.Author.Tests.{le-leb, lt-leb, leb-true, leb-false, eq-eqb, ne-eqb}
 use Rattle.lists.proofs.Booleans.{or-no-left, or-no-right}
 use Rattle.lists.specs.Cases.{pick}
 use Rattle.lists.specs.Bytes.{byteAt, pairAt}
-use Rattle.slots.specs.Slots.{isOffset, arrayStart, scanFrom, stronger, bestScan, directoryOf, scannedDirectory, countedBack, counted, rowCountMatches, pageMatches}
+use Rattle.slots.specs.Slots.{isOffset, arrayStart, scanFrom, stronger, bestScan, directoryFrom, scannedDirectory, countedBack, counted, rowCountMatches, pageMatches}
 use Rattle.slots.specs.Sweep.{hasPair}
 use Rattle.slots.specs.declared.scans.Scan.{Scan}
 use Rattle.slots.specs.declared.scans.Found.{Found}
@@ -50,7 +50,7 @@ startOf Nothing = 0
 startOf (Directory d) = d .start
 
 scanned-start : (lim : ℕ) (p : List ℕ) → startOf (scannedDirectory lim p) ≤ lim + 1
-unfolding scannedDirectory directoryOf startOf
+unfolding scannedDirectory directoryFrom startOf
 scanned-start lim p = go (leb 4 (bestScan lim p lim .live)) (best-start lim p lim)
   where
     go : (t : Bool) → bestScan lim p lim .start ≤ lim + 1 → startOf (pick t (Directory (bestScan lim p lim)) Nothing) ≤ lim + 1

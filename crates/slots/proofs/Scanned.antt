@@ -10,7 +10,7 @@ use native.Mathlib.Numerals.{add-one}
 use lib.Dec.{ltb, eqb}
 use borrow.Author.Tests.{eq-eqb, ne-eqb, lt-ltb, le-ltb, le-leb, lt-leb, ltb-true, ltb-false, eqb-true, eqb-false}
 use Rattle.lists.specs.Bytes.{pairAt}
-use Rattle.slots.specs.Slots.{isOffset, arrayStart, scanFrom, stronger, noScan, bestScan, directoryOf, scannedDirectory}
+use Rattle.slots.specs.Slots.{isOffset, arrayStart, scanFrom, stronger, noScan, bestScan, directoryFrom, scannedDirectory}
 use Rattle.slots.specs.Best.{More, Not-more}
 use Rattle.slots.specs.declared.scans.Scan.{Scan}
 use Rattle.slots.specs.declared.scans.Found.the-variants.{Directory, Nothing}
@@ -117,16 +117,16 @@ from-all lim p (suc k) s =
     ∙ ap (λ (x : Scan). stronger x (bestFrom lim p (s + 1) k)) (rw add-one refl)
     ∙ stronger-assoc (bestScan lim p s) (scanFrom lim p s) (bestFrom lim p (s + 1) k)
 
-directory-from : (b : Scan) → directoryOf (stronger noScan b) ≡ directoryOf b
-unfolding directoryOf
+directory-from : (b : Scan) → directoryFrom (stronger noScan b) ≡ directoryFrom b
+unfolding directoryFrom
 directory-from b = go (decide noScan b)
   where
-    small : (x : Scan) → x .live < 4 → directoryOf x ≡ Nothing
+    small : (x : Scan) → x .live < 4 → directoryFrom x ≡ Nothing
     small x l = rw (lt-leb 4 (x .live) l) refl
 
-    go : More noScan b ⊎ Not-more noScan b → directoryOf (stronger noScan b) ≡ directoryOf b
-    go (inl h) = ap directoryOf (strong-more noScan b h)
-    go (inr h) = ap directoryOf (strong-not noScan b h) ∙ small noScan (omega arith) ∙ sym (small b (⊎-elim (λ k. omega arith) (λ k. omega arith) h))
+    go : More noScan b ⊎ Not-more noScan b → directoryFrom (stronger noScan b) ≡ directoryFrom b
+    go (inl h) = ap directoryFrom (strong-more noScan b h)
+    go (inr h) = ap directoryFrom (strong-not noScan b h) ∙ small noScan (omega arith) ∙ sym (small b (⊎-elim (λ k. omega arith) (λ k. omega arith) h))
 
 -- the pass down: its start, one more start, and its end
 pub from-none : (lim : ℕ) (p : List ℕ) → noScan ≡ bestFrom lim p lim (lim - lim)
@@ -139,20 +139,20 @@ from-more lim p s h =
     let n : lim - s ≡ suc (lim - (s + 1)) = omega arith in
     sym (ap (bestFrom lim p s) n)
 
-pub from-start : (lim : ℕ) (p : List ℕ) (b : Scan) → b ≡ bestFrom lim p 0 (lim - 0) → directoryOf b ≡ scannedDirectory lim p
+pub from-start : (lim : ℕ) (p : List ℕ) (b : Scan) → b ≡ bestFrom lim p 0 (lim - 0) → directoryFrom b ≡ scannedDirectory lim p
 unfolding scannedDirectory bestScan
 from-start lim p b e =
     let z : lim - 0 ≡ lim = omega arith in
     let y : 0 + lim ≡ lim = omega arith in
-    ap directoryOf (e ∙ ap (bestFrom lim p 0) z) ∙ sym (directory-from (bestFrom lim p 0 lim))
-    ∙ ap directoryOf (sym (from-all lim p lim 0)) ∙ ap (λ (x : ℕ). directoryOf (bestScan lim p x)) y
+    ap directoryFrom (e ∙ ap (bestFrom lim p 0) z) ∙ sym (directory-from (bestFrom lim p 0 lim))
+    ∙ ap directoryFrom (sym (from-all lim p lim 0)) ∙ ap (λ (x : ℕ). directoryFrom (bestScan lim p x)) y
 
 -- four live slots or none
 module _ (b : Scan) where
-  pub few-live : b .live < 4 → Nothing ≡ directoryOf b
-  unfolding directoryOf
+  pub few-live : b .live < 4 → Nothing ≡ directoryFrom b
+  unfolding directoryFrom
   few-live h = rw (lt-leb 4 (b .live) h) refl
 
-  pub four-live : 4 ≤ b .live → Directory b ≡ directoryOf b
-  unfolding directoryOf
+  pub four-live : 4 ≤ b .live → Directory b ≡ directoryFrom b
+  unfolding directoryFrom
   four-live h = rw (le-leb 4 (b .live) h) refl

@@ -13,7 +13,7 @@ use borrow.Author.Tests.{eq-eqb, ne-eqb, lt-ltb, le-ltb, le-leb, lt-leb, leb-tru
 use Rattle.lists.specs.Cases.{pick}
 use Rattle.lists.proofs.Picks.{pick-le}
 use Rattle.lists.specs.Bytes.{pairAt}
-use Rattle.slots.specs.Slots.{isOffset, wordsFrom, falling, opening, slotsAt, ontoTrimmed, trim, liveOf, arrayStart, scanAt, scanFrom, stronger, noScan, directoryOf, scannedDirectory}
+use Rattle.slots.specs.Slots.{isOffset, wordsFrom, falling, opening, slotsAt, ontoTrimmed, trim, liveOf, arrayStart, scanAt, scanFrom, stronger, noScan, directoryFrom, scannedDirectory}
 use Rattle.slots.specs.Sweep.{noTail, extendedBy, extended, tailOf, emptyScan, tailScan, strongerKept}
 use Rattle.slots.specs.Best.{More, Not-more}
 use Rattle.slots.specs.declared.scans.Scan.{Scan}
@@ -344,13 +344,13 @@ counting-four : (b : Scan) → 4 ≤ b .live → counting b ≡ b
 unfolding counting
 counting-four b h = rw (le-leb 4 (b .live) h) refl
 
-counting-directory : (b : Scan) → directoryOf (counting b) ≡ directoryOf b
-unfolding directoryOf
+counting-directory : (b : Scan) → directoryFrom (counting b) ≡ directoryFrom b
+unfolding directoryFrom
 counting-directory b = go (leb 4 (b .live)) refl
   where
-    go : (t : Bool) → leb 4 (b .live) ≡ t → directoryOf (counting b) ≡ directoryOf b
-    go true q = ap directoryOf (counting-four b (leb-true 4 (b .live) q))
-    go false q = ap directoryOf (counting-few b (leb-false 4 (b .live) q)) ∙ rw q refl
+    go : (t : Bool) → leb 4 (b .live) ≡ t → directoryFrom (counting b) ≡ directoryFrom b
+    go true q = ap directoryFrom (counting-four b (leb-true 4 (b .live) q))
+    go false q = ap directoryFrom (counting-few b (leb-false 4 (b .live) q)) ∙ rw q refl
 
 kept-counting : (c b : Scan) → strongerKept c (counting b) ≡ counting (stronger c b)
 unfolding strongerKept
@@ -402,6 +402,6 @@ module _ (lim : ℕ) (p : List ℕ) (s r : ℕ) (near far : Tail) (best : Scan) 
         ∙ kept-counting (scanFrom lim p r) (bestFrom lim p (r + 1) (lim - (r + 1))) ∙ ap counting (from-more lim p r (omega (arith, g .within)));
   }
 
-pub swept-all : (lim : ℕ) (p : List ℕ) (s : ℕ) (near far : Tail) (best : Scan) → Swept lim p s near far best → s ≡ 0 → directoryOf best ≡ scannedDirectory lim p
+pub swept-all : (lim : ℕ) (p : List ℕ) (s : ℕ) (near far : Tail) (best : Scan) → Swept lim p s near far best → s ≡ 0 → directoryFrom best ≡ scannedDirectory lim p
 swept-all lim p s near far best g z =
-    ap directoryOf (g .best-is ∙ ap (λ (k : ℕ). counting (bestFrom lim p k (lim - k))) z) ∙ counting-directory (bestFrom lim p 0 (lim - 0)) ∙ from-start lim p (bestFrom lim p 0 (lim - 0)) refl
+    ap directoryFrom (g .best-is ∙ ap (λ (k : ℕ). counting (bestFrom lim p k (lim - k))) z) ∙ counting-directory (bestFrom lim p 0 (lim - 0)) ∙ from-start lim p (bestFrom lim p 0 (lim - 0)) refl

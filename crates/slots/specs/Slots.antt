@@ -85,11 +85,11 @@ bestScan lim plain zero = noScan
 bestScan lim plain (suc n) = stronger (bestScan lim plain n) (scanFrom lim plain n)
 
 -- "fewer than 4 live gives nothing": falling runs of that length are rare in random bytes, shorter ones are noise
-unfoldable pub directoryOf : Scan → Found
-directoryOf b = pick (leb 4 (b .live)) (Directory b) Nothing
+unfoldable pub directoryFrom : Scan → Found
+directoryFrom b = pick (leb 4 (b .live)) (Directory b) Nothing
 
 unfoldable pub scannedDirectory : ℕ → List ℕ → Found
-scannedDirectory lim plain = directoryOf (bestScan lim plain lim)
+scannedDirectory lim plain = directoryFrom (bestScan lim plain lim)
 
 -- "array start >= back + 2 and the two bytes at start - back are the count and 0"
 unfoldable pub countedBack : List ℕ → ℕ → ℕ → ℕ → Bool

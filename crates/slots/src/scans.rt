@@ -5,7 +5,7 @@ ghost use mathlib.Core.Path.{_≡_};
 ghost use Prim.Native.Nat.{_+_, _*_, _<_, _≤_};
 ghost use lib.ListN.{length};
 ghost use Rattle.lists.specs.Bytes.{plainOf};
-ghost use Rattle.slots.specs.Slots.{wordsFrom, stronger, directoryOf, scannedDirectory};
+ghost use Rattle.slots.specs.Slots.{wordsFrom, stronger, directoryFrom, scannedDirectory};
 ghost use Rattle.slots.specs.Sweep.{noTail, extended, tailOf, tailScan, strongerKept};
 
 // What a scan finds: where its array starts, its slots without trailing zeros, and how many of them are live. It ends at start + 2 * slots.
@@ -67,7 +67,7 @@ fn sweep(bytes: &[u8], bv: u8, limit: usize) -> Found
 }
 
 fn directory_of(best: Scan) -> Found
-    ensures { λ r. ⌜ r ≡ directoryOf best ⌝ }
+    ensures { λ r. ⌜ r ≡ directoryFrom best ⌝ }
 {
     if best.live < 4 {
         return Found::Nothing;

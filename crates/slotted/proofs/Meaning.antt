@@ -1,22 +1,19 @@
--- What the parse comes to: at most three warnings; a directory that fits its table; the numbers of the answers. Assumes nothing.
+-- What the parse comes to: at most three warnings; a directory that fits its table. Assumes nothing.
 use Prim.Native.Nat.{ℕ, _+_, _*_, _≤_, _<_}
 use mathlib.Core.Path.{_≡_, refl}
-use mathlib.Core.List.{List, [], _∷_}
+use mathlib.Core.List.{List}
 use mathlib.Core.Bool.{Bool, true, false}
 use native.Mathlib.Omega.{arith}
 use lib.Dec.{eqb, leb}
 use lib.ListN.{set}
 use Rattle.lists.specs.Cases.{pick}
 use Rattle.lists.specs.Bytes.{byteAt}
-use Rattle.lists.specs.Counts.{isIn}
-use Rattle.answers.specs.Answers.{numberOf}
 use Rattle.answers.specs.Warns.{warningNumber, noParseWarnings, withParseWarning}
 use Rattle.answers.specs.declared.notices.WarningKind.{WarningKind}
 use Rattle.answers.specs.declared.notices.ParseWarnings.{ParseWarnings}
 use Rattle.slots.specs.Slots.{searchLimit}
-use Rattle.slotted.specs.Decisions.{answerOf, decisionOf}
+use Rattle.slotted.specs.Decisions.{decisionOf}
 use Rattle.slotted.specs.Parses.{warned, parsedOf}
-use Rattle.slotted.specs.declared.verdicts.Verdict.{Verdict}
 use Rattle.slotted.specs.declared.verdicts.Verdict.the-variants as verdict
 use Rattle.slotted.specs.declared.verdicts.Decided.{Decided}
 use Rattle.slotted.proofs.Found.{scanned-few}
@@ -52,29 +49,3 @@ listed-few plain lenient b =
 pub directory-fits : (number : ℕ) (plain : List ℕ) (lenient : Bool) → byteAt plain 0xFF0 < 256 → parsedOf searchLimit number plain lenient .directory .len ≤ 384
 unfolding parsedOf
 directory-fits number plain lenient b = listed-few plain lenient b
-
--- ---- the numbers of the answers
-
-pub verdict-in :
-    (ns : List ℕ) (number : ℕ) (v : Verdict)
-    → isIn 0 ns ≡ true
-    → isIn 1 ns ≡ true
-    → isIn 8 ns ≡ true
-    → isIn 9 ns ≡ true
-    → isIn 10 ns ≡ true
-    → isIn 11 ns ≡ true
-    → isIn 12 ns ≡ true
-    → isIn (numberOf (answerOf number v)) ns ≡ true
-verdict-in ns number verdict.Accepted a b c d e f g = a
-verdict-in ns number (verdict.WrongLength n) a b c d e f g = b
-verdict-in ns number (verdict.NoDirectory reason) a b c d e f g = c
-verdict-in ns number verdict.NoPrelude a b c d e f g = d
-verdict-in ns number (verdict.Truncated found expected stop) a b c d e f g = e
-verdict-in ns number verdict.Ambiguous a b c d e f g = f
-verdict-in ns number (verdict.OffsetInside offset end) a b c d e f g = g
-
--- a parse gives 0, 1 or 8 to 12
-pub parse-number : (lim number : ℕ) (plain : List ℕ) (lenient : Bool) → isIn (numberOf (parsedOf lim number plain lenient .answer)) (0 ∷ 1 ∷ 8 ∷ 9 ∷ 10 ∷ 11 ∷ 12 ∷ []) ≡ true
-unfolding parsedOf isIn
-parse-number lim number plain lenient =
-    verdict-in (0 ∷ 1 ∷ 8 ∷ 9 ∷ 10 ∷ 11 ∷ 12 ∷ []) number (decisionOf lim plain lenient .verdict) refl refl refl refl refl refl refl
