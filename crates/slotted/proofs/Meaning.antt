@@ -14,7 +14,6 @@ use Rattle.answers.specs.declared.notices.ParseWarnings.{ParseWarnings}
 use Rattle.slots.specs.Slots.{searchLimit}
 use Rattle.slotted.specs.Decisions.{decisionOf}
 use Rattle.slotted.specs.Parses.{warned, parsedOf}
-use Rattle.slotted.specs.declared.verdicts.Verdict.the-variants as verdict
 use Rattle.slotted.specs.declared.verdicts.Decided.{Decided}
 use Rattle.slotted.proofs.Found.{scanned-few}
 use Rattle.slotted.proofs.Decisions.{decided-holds}
