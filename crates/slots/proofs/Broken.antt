@@ -32,27 +32,33 @@ last-live prev (suc x) l n = refl
 abbrev Ends : ℕ → ℕ → Type 0
 Ends prev w = (w ≡ 0 → ⊥) × ((isOffset w ≡ false) ⊎ (prev ≤ w))
 
--- the pair behind a run of slots
-falling-ends : (prev : ℕ) (ws : List ℕ) → length (falling prev ws) < length ws → Ends (lastLive prev (falling prev ws)) (getD ws (length (falling prev ws)) 0)
-unfolding falling lastLive
-falling-ends prev [] h = absurd (not-suc-le-zero h)
-falling-ends prev (w ∷ ws) h = go (eqb w 0) refl (isOffset w) refl (ltb w prev) refl (λ k. falling-ends prev ws k) (λ k. falling-ends w ws k) h
-  where
-    go : (b : Bool) → eqb w 0 ≡ b → (o : Bool) → isOffset w ≡ o → (d : Bool) → ltb w prev ≡ d → (length (falling prev ws) < length ws → Ends (lastLive prev (falling prev ws)) (getD ws (length (falling prev ws)) 0)) → (length (falling w ws) < length ws → Ends (lastLive w (falling w ws)) (getD ws (length (falling w ws)) 0)) → length (pick b (0 ∷ falling prev ws) (pick (o && d) (w ∷ falling w ws) [])) < suc (length ws) → Ends (lastLive prev (pick b (0 ∷ falling prev ws) (pick (o && d) (w ∷ falling w ws) []))) (getD (w ∷ ws) (length (pick b (0 ∷ falling prev ws) (pick (o && d) (w ∷ falling w ws) []))) 0)
-    go true qb o qo d qd same next h = same (omega arith)
-    go false qb true qo true qd same next h =
-        subst (λ (k : ℕ). Ends k (getD ws (length (falling w ws)) 0)) (last-live prev w (falling w ws) (offset-pos w qo)) (next (omega arith))
-    go false qb true qo false qd same next h = (eqb-false w 0 qb, inr (ltb-false w prev qd))
-    go false qb false qo d qd same next h = (eqb-false w 0 qb, inl qo)
+-- what was taken of the pairs ws ends at a pair that is no slot, if it is not all of them
+abbrev Ended : ℕ → List ℕ → List ℕ → Type 0
+Ended prev ws l = length l < length ws → Ends (lastLive prev l) (getD ws (length l) 0)
 
-opening-ends : (ws : List ℕ) → 0 < length (opening ws) → length (opening ws) < length ws → Ends (lastLive 0xFF0 (opening ws)) (getD ws (length (opening ws)) 0)
-unfolding opening
-opening-ends [] pos h = absurd (not-suc-le-zero h)
-opening-ends (w ∷ ws) pos h = go (isOffset w) refl pos h
+falling-ends : (prev : ℕ) (ws : List ℕ) → Ended prev ws (falling prev ws)
+unfolding falling lastLive
+falling-ends prev [] = λ h. absurd (not-suc-le-zero h)
+falling-ends prev (w ∷ ws) = go (eqb w 0) refl (isOffset w) refl (ltb w prev) refl (falling-ends prev ws) (falling-ends w ws)
   where
-    go : (b : Bool) → isOffset w ≡ b → 0 < length (pick b (w ∷ falling w ws) []) → length (pick b (w ∷ falling w ws) []) < suc (length ws) → Ends (lastLive 0xFF0 (pick b (w ∷ falling w ws) [])) (getD (w ∷ ws) (length (pick b (w ∷ falling w ws) [])) 0)
-    go true q pos h = subst (λ (k : ℕ). Ends k (getD ws (length (falling w ws)) 0)) (last-live 0xFF0 w (falling w ws) (offset-pos w q)) (falling-ends w ws (omega arith))
-    go false q pos h = absurd (not-suc-le-zero pos)
+    go :
+        (b : Bool) → eqb w 0 ≡ b → (o : Bool) → isOffset w ≡ o → (d : Bool) → ltb w prev ≡ d → Ended prev ws (falling prev ws) → Ended w ws (falling w ws)
+        → Ended prev (w ∷ ws) (pick b (0 ∷ falling prev ws) (pick (o && d) (w ∷ falling w ws) []))
+    go true qb o qo d qd same next = λ h. same (omega arith)
+    go false qb true qo true qd same next =
+        λ h. subst (λ (k : ℕ). Ends k (getD ws (length (falling w ws)) 0)) (last-live prev w (falling w ws) (offset-pos w qo)) (next (omega arith))
+    go false qb true qo false qd same next = λ h. (eqb-false w 0 qb, inr (ltb-false w prev qd))
+    go false qb false qo d qd same next = λ h. (eqb-false w 0 qb, inl qo)
+
+opening-ends : (ws : List ℕ) → 0 < length (opening ws) → Ended 0xFF0 ws (opening ws)
+unfolding opening
+opening-ends [] pos = λ h. absurd (not-suc-le-zero h)
+opening-ends (w ∷ ws) pos = go (isOffset w) refl pos
+  where
+    go : (b : Bool) → isOffset w ≡ b → 0 < length (pick b (w ∷ falling w ws) []) → Ended 0xFF0 (w ∷ ws) (pick b (w ∷ falling w ws) [])
+    go true q pos =
+        λ h. subst (λ (k : ℕ). Ends k (getD ws (length (falling w ws)) 0)) (last-live 0xFF0 w (falling w ws) (offset-pos w q)) (falling-ends w ws (omega arith))
+    go false q pos = absurd (not-suc-le-zero pos)
 
 opening-begins : (ws : List ℕ) → 0 < length (opening ws) → isOffset (getD ws 0 0) ≡ true
 unfolding opening
@@ -64,7 +70,9 @@ opening-begins (w ∷ ws) pos = go (isOffset w) refl pos
     go false q pos = absurd (not-suc-le-zero pos)
 
 -- the pairs from a position on, by their places
-words-at : (lim : ℕ) (p : List ℕ) (k at : ℕ) → lim ≤ length p → at + 2 * k + 1 < lim → (k < length (wordsFrom lim p at)) × (getD (wordsFrom lim p at) k 0 ≡ pairAt p (at + 2 * k))
+words-at :
+    (lim : ℕ) (p : List ℕ) (k at : ℕ) → lim ≤ length p → at + 2 * k + 1 < lim
+    → (k < length (wordsFrom lim p at)) × (getD (wordsFrom lim p at) k 0 ≡ pairAt p (at + 2 * k))
 words-at lim p zero at le h =
     let e : wordsFrom lim p at ≡ pairAt p at ∷ wordsFrom lim p (at + 2) = words-step lim p at le (omega arith) in
     let z : at ≡ at + 2 * 0 = omega arith in
@@ -85,7 +93,14 @@ module _ (p : List ℕ) (n start : ℕ) where
 
   pub declared-breaks : 4 ≤ liveOf (declaredSlots p n start) → many < n → Breaks p n start many (start + 2 * many)
   unfolding declaredSlots slotsAt
-  declared-breaks live few = record { begins = begins; counts = refl; few = few; live = live; stops = refl; fails = go (leb (dataEnd p) (start + 2 * many + 1)) refl }
+  declared-breaks live few = record {
+    begins = begins;
+    counts = refl;
+    few = few;
+    live = live;
+    stops = refl;
+    fails = go (leb (dataEnd p) (start + 2 * many + 1)) refl;
+  }
     where
       ws : List ℕ
       ws = wordsFrom end p start

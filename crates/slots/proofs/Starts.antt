@@ -92,6 +92,13 @@ module _ (p : List ℕ) (n : ℕ) (P Q : ℕ → ℕ → Type 0) (field gap : �
   abbrev full : Bool
   full = whole n (runOf here)
 
+  -- none of some places has all of its slots; all before are shorter than this one
+  abbrev None : (ℕ → ℕ → Type 0) → Type 0
+  None At = (s : ℕ) → Fits At p n s → ⊥
+
+  abbrev Shorter : Type 0
+  Shorter = (f g : ℕ) → P f g → 4 ≤ liveOf (declaredSlots p n (f + g)) → length (declaredSlots p n (f + g)) < length here
+
   fits-split : (s : ℕ) → Fits Q p n s → Fits P p n s ⊎ ((s ≡ start) × (full ≡ true))
   fits-split s h =
       ⊎-elim (λ q. inl (record { field = h .field; gap = h .gap; place = q; there = h .there; fills = h .fills }))
@@ -101,7 +108,7 @@ module _ (p : List ℕ) (n : ℕ) (P Q : ℕ → ℕ → Type 0) (field gap : �
   fits-new : full ≡ true → Fits Q p n start
   fits-new e = record { field = field; gap = gap; place = new; there = refl; fills = e }
 
-  none-fits : full ≡ false → ((s : ℕ) → Fits P p n s → ⊥) → (s : ℕ) → Fits Q p n s → ⊥
+  none-fits : full ≡ false → None P → None Q
   none-fits e h s q = ⊎-elim (h s) (λ k. false≢true (sym e ∙ k .1)) (fits-split s q)
 
   -- what holds of the arrays before and of this one holds of all
@@ -109,13 +116,15 @@ module _ (p : List ℕ) (n : ℕ) (P Q : ℕ → ℕ → Type 0) (field gap : �
   all-arrays A old this f g q = ⊎-elim (old f g) (λ e. let z : start ≡ f + g = omega (arith, e .0, e .1) in subst A z this) (splits f g q)
 
   -- this one is the longest, if every other is shorter
-  longest-new : full ≡ false → 4 ≤ liveOf here → ((f g : ℕ) → P f g → 4 ≤ liveOf (declaredSlots p n (f + g)) → length (declaredSlots p n (f + g)) < length here) → Longest Q p n (length here) (start + 2 * length here)
+  longest-new : full ≡ false → 4 ≤ liveOf here → Shorter → Longest Q p n (length here) (start + 2 * length here)
   longest-new e live less = record {
     field = field;
     gap = gap;
     place = new;
     breaks = declared-breaks p n start live (cut-short p n start e live);
-    none-longer = all-arrays (λ (k : ℕ). 4 ≤ liveOf (declaredSlots p n k) → length (declaredSlots p n k) ≤ length here) (λ f g q l. let k : length (declaredSlots p n (f + g)) < length here = less f g q l in omega arith) (λ l. omega arith);
+    none-longer =
+        all-arrays (λ (k : ℕ). 4 ≤ liveOf (declaredSlots p n k) → length (declaredSlots p n k) ≤ length here)
+        (λ f g q l. let k : length (declaredSlots p n (f + g)) < length here = less f g q l in omega arith) (λ l. omega arith);
     earlier-shorter = λ f g q b. ⊎-elim (less f g) (λ e. absurd (before-self f g field gap e b)) (splits f g q);
   }
 
@@ -125,18 +134,27 @@ module _ (p : List ℕ) (n : ℕ) (P Q : ℕ → ℕ → Type 0) (field gap : �
     gap = l .gap;
     place = keeps (l .field) (l .gap) (l .place);
     breaks = l .breaks;
-    none-longer = all-arrays (λ (k : ℕ). 4 ≤ liveOf (declaredSlots p n k) → length (declaredSlots p n k) ≤ found) (l .none-longer) (not-longer p n start found e);
-    earlier-shorter = λ f g q b. ⊎-elim (λ k. l .earlier-shorter f g k b) (λ e. absurd (not-before f g e b (after (l .field) (l .gap) (l .place)))) (splits f g q);
+    none-longer =
+        all-arrays (λ (k : ℕ). 4 ≤ liveOf (declaredSlots p n k) → length (declaredSlots p n k) ≤ found) (l .none-longer)
+        (not-longer p n start found e);
+    earlier-shorter =
+        λ f g q b. ⊎-elim (λ k. l .earlier-shorter f g k b) (λ e. absurd (not-before f g e b (after (l .field) (l .gap) (l .place)))) (splits f g q);
   }
     where
       not-before : (f g : ℕ) → (f ≡ field) × (g ≡ gap) → Before f g (l .field) (l .gap) → Before (l .field) (l .gap) field gap → ⊥
-      not-before f g e b a = before-not f g (l .field) (l .gap) b (subst (λ (k : ℕ). Before (l .field) (l .gap) f k) (sym (e .1)) (subst (λ (k : ℕ). Before (l .field) (l .gap) k gap) (sym (e .0)) a))
+      not-before f g e b a =
+          let same : Before (l .field) (l .gap) f gap = subst (λ (k : ℕ). Before (l .field) (l .gap) k gap) (sym (e .0)) a in
+          before-not f g (l .field) (l .gap) b (subst (λ (k : ℕ). Before (l .field) (l .gap) f k) (sym (e .1)) same)
 
-  tells-first : (seen : Prelude) (found : ℕ) → ((s : ℕ) → Fits P p n s → ⊥) → (longer found (runOf here) ≡ true → (f g : ℕ) → P f g → 4 ≤ liveOf (declaredSlots p n (f + g)) → length (declaredSlots p n (f + g)) < length here) → (longer found (runOf here) ≡ false → ((s : ℕ) → Fits Q p n s → ⊥) → Tells Q p n seen) → Tells Q p n (firstNoted n start (runOf here) found seen)
+  tells-first :
+      (seen : Prelude) (found : ℕ) → None P → (longer found (runOf here) ≡ true → Shorter)
+      → (longer found (runOf here) ≡ false → None Q → Tells Q p n seen) → Tells Q p n (firstNoted n start (runOf here) found seen)
   unfolding Tells
   tells-first seen found none less back = go full refl (longer found (runOf here)) refl
     where
-      go : (b : Bool) → full ≡ b → (l : Bool) → longer found (runOf here) ≡ l → Tells Q p n (pick b (One start) (pick l (Truncated (length here) (start + 2 * length here)) seen))
+      go :
+          (b : Bool) → full ≡ b → (l : Bool) → longer found (runOf here) ≡ l
+          → Tells Q p n (pick b (One start) (pick l (Truncated (length here) (start + 2 * length here)) seen))
       go true e l k = (fits-new e, λ s q. ⊎-elim (λ x. absurd (none s x)) (λ x. x .0) (fits-split s q))
       go false e true k = (none-fits e none, longest-new e (longer-live p n start found k) (less k))
       go false e false k = back k (none-fits e none)
@@ -207,7 +225,9 @@ module _ (p : List ℕ) (n f : ℕ) where
         go true e =
             tells-noted p n Half (Place (suc f) p n) f 6 all-four (λ x y q. ⊎-elim (λ k. inl k) (λ k. inr (k .0, k .1)) (three x y q))
             (record { below = omega arith; holds = held; gapped = inr (refl, eqb-true (pairAt p (f + 4)) 0 e) }) before-six seen h
-        go false e = tells-same p n Half (Place (suc f) p n) all-four (λ x y q. ⊎-elim (λ k. k) (λ k. absurd (eqb-false (pairAt p (f + 4)) 0 e (k .2))) (three x y q)) seen h
+        go false e =
+            tells-same p n Half (Place (suc f) p n) all-four
+            (λ x y q. ⊎-elim (λ k. k) (λ k. absurd (eqb-false (pairAt p (f + 4)) 0 e (k .2))) (three x y q)) seen h
 
   field-tells : (seen : Prelude) → Tells (Place f p n) p n seen → Tells (Place (suc f) p n) p n (fieldNoted p n f seen)
   unfolding fieldNoted
