@@ -17,7 +17,7 @@
 //! Sectors that come one at a time go through [`scan`] once, then [`replace`], and [`decode_summary`] after each.
 mod answers;
 mod layout;
-mod sys;
+pub mod sys;
 mod version;
 
 pub use answers::*;

@@ -1,13 +1,12 @@
 //! The pages that are timed, eight of a kind, stored and plain.
-use lumeviqo::{Leniency, Options, PAGE};
-use oracle::{Reading, timed};
+use lumeviqo::{Leniency, Options};
+use oracle::timed;
 
 use crate::checks::{Difference, compare};
 use crate::kinds::Case;
 use crate::plan::{DATA, Plan, put};
 use crate::random::Random;
 use crate::tally::Tally;
-use crate::told;
 
 pub const COUNT: usize = 8;
 /// KEYSTREAM: pages without rows and exact sectors are decoded to their end.
@@ -51,8 +50,8 @@ impl Pages {
                 let differ = |d: Difference| format!("{} pages differ at: {}\n{}", self.name, d.question, d.detail);
                 compare(&self.case(k, bits), &mut Tally::default()).map_err(differ)?;
             }
-            if !self.same_crc(k) || !self.same_supplied(k) {
-                return Err(format!("{} pages differ at the CRC of 4,092 bytes, or at a supplied bv", self.name));
+            if !self.same_crc(k) {
+                return Err(format!("{} pages differ at the CRC of 4,092 bytes", self.name));
             }
         }
         Ok(())
@@ -62,14 +61,6 @@ impl Pages {
     fn same_crc(&self, k: usize) -> bool {
         let [reader, fast, table] = [lumeviqo::crc32, timed::crc32_pclmulqdq, timed::crc32_baseline].map(|f| f(&self.stored[k][..4092]));
         reader == fast && reader == table
-    }
-
-    /// `compare` has the reader scan anew for some pages alone.
-    fn same_supplied(&self, k: usize) -> bool {
-        let mut out = [0; PAGE];
-        let reader = lumeviqo::decode_supplied(k as u64, &self.stored[k], self.bv(k), OPTIONS, &mut out);
-        let original = Reading::new(k as u64, &self.stored[k]).and_then(|r| r.decode_supplied(self.bv(k), BITS));
-        reader.map(|d| told::decoded(d, &out)).map_err(told::refusal) == original
     }
 
     fn case(&self, k: usize, bits: u8) -> Case {

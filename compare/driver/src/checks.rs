@@ -1,33 +1,36 @@
-//! Every question that a case asks, put to both sides. An answer is compared whole, and with it the bytes that had to stay.
+//! Every question that a case asks, put to the library as C asks it and as Rust does, and to the original. An answer is compared whole, by all
+//! its bytes and by the binding's types, and with it every byte that was lent.
 use std::fmt::Debug;
 
-use lumeviqo::{Fits, Leniency, Options, PAGE, SHIFTED};
+use lumeviqo::header as h;
+use lumeviqo::{PAGE, SHIFTED};
 use oracle::Reading;
-use oracle::plain::{Decoded, Refusal};
+use oracle::plain::{Decoded, Fit, Refusal};
 
 use crate::kinds::Case;
+use crate::lent::{BEFORE, Fault};
+use crate::questions::Question;
 use crate::random::Random;
+use crate::shrink::hex;
+use crate::summary::Summary;
 use crate::tally::Tally;
-use crate::told;
+use crate::{as_c, as_rust, layouts};
 
 /// The first question that the two sides answer differently.
 #[derive(Debug)]
 pub struct Difference {
-    pub question: &'static str,
+    pub question: Question,
     pub detail: String,
 }
 
 type Checked = Result<(), Difference>;
-
-/// What a lent buffer holds before a call.
-const BEFORE: u8 = 0xA5;
 
 pub fn compare(case: &Case, tally: &mut Tally) -> Checked {
     *tally.pages.entry(case.kind).or_default() += 1;
     fields(case, tally)?;
     match Reading::new(case.number, &case.page) {
         Ok(reading) => whole_page(case, &reading, tally)?,
-        Err(refusal) => wrong_page(case, &refusal, tally)?,
+        Err(_) => [(PAGE, SHIFTED), (5, 3)].into_iter().try_for_each(|(room, shifted)| lengths(case, room, shifted, tally))?,
     }
     if let Some(plain) = &case.plain {
         rows(case, plain, tally)?;
@@ -35,261 +38,311 @@ pub fn compare(case: &Case, tally: &mut Tally) -> Checked {
     Ok(())
 }
 
-fn same<A: PartialEq + Debug>(tally: &mut Tally, question: &'static str, reader: A, original: A) -> Checked {
+/// By the types of the binding, or a number that C returns.
+fn same<A: PartialEq + Debug>(tally: &mut Tally, question: Question, reader: Result<A, Fault>, original: &A) -> Checked {
     tally.asked(question);
-    if reader == original {
+    match reader {
+        Ok(reader) if reader == *original => Ok(()),
+        Ok(reader) => Err(Difference { question, detail: format!("reader   {reader:?}\noriginal {original:?}") }),
+        Err(detail) => Err(Difference { question, detail }),
+    }
+}
+
+/// By all bytes of the layout.
+fn exactly(tally: &mut Tally, question: Question, answer: as_c::Answer, layout: &[u8]) -> Checked {
+    tally.asked(question);
+    let answer = answer.map_err(|detail| Difference { question, detail })?;
+    holds(question, "the answer", &answer, layout)
+}
+
+fn holds(question: Question, what: &str, reader: &[u8], expected: &[u8]) -> Checked {
+    if reader == expected {
         return Ok(());
     }
-    Err(Difference { question, detail: format!("reader   {reader:?}\noriginal {original:?}") })
+    let at = reader.iter().zip(expected).take_while(|(a, b)| a == b).count();
+    let from = |bytes: &[u8]| hex(&bytes[at..(at + 24).min(bytes.len())]);
+    Err(Difference { question, detail: format!("{what}, from byte {at}\nreader   {}\nexpected {}", from(reader), from(expected)) })
 }
 
-fn stays(tally: &mut Tally, question: &'static str, buffer: &[u8]) -> Checked {
-    match buffer.iter().position(|&b| b != BEFORE) {
-        None => {
-            tally.asked("bytes that stay");
-            Ok(())
-        }
-        Some(at) => Err(Difference { question, detail: format!("a refusal wrote byte {at} of a lent buffer") }),
-    }
-}
-
-fn options(bits: u8) -> Options {
-    Options { leniency: Leniency(bits), ..Options::default() }
+fn refused(number: usize, value: usize) -> Refusal {
+    Refusal { number: number as u8, values: vec![value as u64], candidates: Vec::new() }
 }
 
 /// CRC, trailer, integrity and superblock.
 fn fields(case: &Case, tally: &mut Tally) -> Checked {
     let page = &case.page;
+    same(tally, Question::Version, Ok(as_c::version() as usize), &h::VERSION)?;
     let mut r = Random::new(case.number, page.len() as u64);
     let from = r.below(page.len() + 1);
-    let part = &page[from..r.from_to(from, page.len())];
-    same(tally, "crc", lumeviqo::crc32(part), oracle::crc32(part))?;
-    same(tally, "crc", lumeviqo::crc32(page), oracle::crc32(page))?;
+    for part in [&page[from..r.from_to(from, page.len())], page] {
+        let crc = oracle::crc32(part);
+        same(tally, Question::Crc, as_c::crc32(part), &crc)?;
+        same(tally, Question::Crc, as_rust::crc32(part), &crc)?;
+    }
 
     let trailer = oracle::trailer(page);
-    tally.answer(trailer.as_ref().err());
-    same(tally, "trailer", lumeviqo::trailer(page).map(told::trailer).map_err(told::refusal), trailer)?;
+    tally.answer(Question::Trailer, trailer.as_ref().err());
+    exactly(tally, Question::Trailer, as_c::trailer(page), &layouts::trailer(&trailer))?;
+    same(tally, Question::Trailer, as_rust::trailer(page), &trailer)?;
 
     let integrity = oracle::integrity(case.number, page);
-    tally.answer(integrity.as_ref().err());
-    same(tally, "integrity", lumeviqo::integrity(case.number, page).map_err(told::refusal), integrity)?;
+    tally.answer(Question::Integrity, integrity.as_ref().err());
+    exactly(tally, Question::Integrity, as_c::integrity(case.number, page), &layouts::integrity(&integrity))?;
+    same(tally, Question::Integrity, as_rust::integrity(case.number, page), &integrity)?;
 
     let superblock = oracle::superblock(page);
-    tally.answer(superblock.as_ref().err());
-    same(tally, "superblock", lumeviqo::superblock(page).map(told::superblock).map_err(told::refusal), superblock)?;
+    tally.answer(Question::Superblock, superblock.as_ref().err());
+    exactly(tally, Question::Superblock, as_c::superblock(page), &layouts::superblock(&superblock))?;
+    same(tally, Question::Superblock, as_rust::superblock(page), &superblock)?;
+
     let checked = oracle::superblock_checked(page);
-    tally.answer(checked.as_ref().err());
-    same(tally, "checked superblock", lumeviqo::superblock_checked(page).map(told::superblock).map_err(told::refusal), checked)
+    tally.answer(Question::CheckedSuperblock, checked.as_ref().err());
+    exactly(tally, Question::CheckedSuperblock, as_c::superblock_checked(page), &layouts::superblock(&checked))?;
+    same(tally, Question::CheckedSuperblock, as_rust::superblock_checked(page), &checked)
 }
 
 /// Scan, decodings and replacements of a page of the right length.
 fn whole_page(case: &Case, reading: &Reading<'_>, tally: &mut Tally) -> Checked {
-    let mut shifted = [BEFORE; SHIFTED];
-    let fits = scan(case, &case.page, reading, &mut shifted, tally)?;
+    let (n, page, anchors, bits) = (case.number, &case.page[..], &case.anchors[..], case.bits);
+    let summary = Summary::of(reading);
+    scan(case, &Ok(&summary), SHIFTED, tally)?;
 
     // The case's options and anchors by its own scan, and the summary with those, without anchors, and in full leniency.
-    let expected = reading.decode(&case.anchors, case.bits);
-    tally.answer(expected.as_ref().err());
-    if let Ok(d) = &expected {
-        tally.decoded(d);
+    let expected = reading.decode(anchors, bits);
+    decoding_as_c(tally, Question::Decoding, PAGE, &expected, |o| as_c::decode(n, page, anchors, bits, o))?;
+    from_summary(tally, Question::SummaryDecoding, case, page, &summary, anchors, bits, &expected)?;
+    for (anchors, bits) in [(anchors, bits ^ 1), (&[], 7)] {
+        from_summary(tally, Question::SummaryDecoding, case, page, &summary, anchors, bits, &reading.decode(anchors, bits))?;
     }
-    let mut out = [BEFORE; PAGE];
-    let answer = lumeviqo::decode(case.number, &case.page, &case.anchors, options(case.bits), &mut out);
-    decoding(tally, "decoding", answer, &out, &expected)?;
-    summary_decoding(case, &case.page, &fits, &shifted, &case.anchors, case.bits, &expected, tally)?;
-    for (anchors, bits) in [(&case.anchors[..], case.bits ^ 1), (&[], 7)] {
-        if anchors.is_empty() == case.anchors.is_empty() && bits == case.bits {
-            continue;
-        }
-        let expected = reading.decode(anchors, bits);
-        tally.answer(expected.as_ref().err());
-        if let Ok(d) = &expected {
-            tally.decoded(d);
-        }
-        summary_decoding(case, &case.page, &fits, &shifted, anchors, bits, &expected, tally)?;
-    }
+    many_anchors(case, reading, &summary, tally)?;
+    let turned = reading.turned();
+    from_summary(tally, Question::ForeignDecoding, case, page, &Summary::of(&turned), anchors, bits, &turned.decode(anchors, bits))?;
 
-    supplied(case, reading, &fits, &shifted, tally)?;
+    supplied(case, reading, &summary, tally)?;
     if let Ok(d) = &expected {
         rows(case, &d.plain, tally)?;
     }
-    buffers(case, &fits, &shifted, tally)?;
-    replacements(case, fits, shifted, tally)
+    let mut r = Random::new(n, page[4095] as u64);
+    let (room, shifted) = (r.of(&[0, 1, 4079, SHIFTED, 4081, 4095, 4097]), r.of(&[0, 1, 4079, 4081, 4095, PAGE, 4097]));
+    [(room, shifted), (room, SHIFTED), (PAGE, shifted)].into_iter().try_for_each(|(room, shifted)| lengths(case, room, shifted, tally))?;
+    replacements(case, summary, tally)
 }
 
-fn scan(case: &Case, page: &[u8], reading: &Reading<'_>, shifted: &mut [u8], tally: &mut Tally) -> Result<Fits, Difference> {
-    let answer = lumeviqo::scan(case.number, page, shifted);
-    same(tally, "scan", answer.clone().map(told::fits).map_err(told::refusal), Ok(reading.fits()))?;
-    same(tally, "shifted bytes", &shifted[..], &reading.shifted()[..])?;
-    Ok(answer.expect("just compared"))
+/// The fits and the shifted bytes, or a refusal that writes none.
+fn scan(case: &Case, expected: &Result<&Summary, Refusal>, room: usize, tally: &mut Tally) -> Checked {
+    let none = Summary { fits: [Fit { step: 0, peak: 0, runner_up: 0, exact: false }; 8], shifted: vec![BEFORE; room] };
+    let (question, after) = (Question::Scan, expected.as_ref().copied().unwrap_or(&none));
+    tally.answer(question, expected.as_ref().err());
+    let mut shifted = vec![BEFORE; room];
+    let layout = layouts::fits(expected.as_ref().err(), &after.fits);
+    exactly(tally, question, as_c::scan(case.number, &case.page, &mut shifted), &layout)?;
+    holds(question, "shifted", &shifted, &after.shifted)?;
+
+    shifted.fill(BEFORE);
+    let fits = expected.as_ref().map(|s| s.fits).map_err(Clone::clone);
+    same(tally, question, as_rust::scan(case.number, &case.page, &mut shifted), &fits)?;
+    holds(question, "shifted", &shifted, &after.shifted)
 }
 
+/// An answer, and the plaintext in a buffer of so many bytes, which stay as they were where it is a refusal.
 fn decoding(
     tally: &mut Tally,
-    question: &'static str,
-    answer: Result<lumeviqo::Decoding, lumeviqo::Refusal>,
-    out: &[u8],
+    question: Question,
+    room: usize,
     expected: &Result<Decoded, Refusal>,
+    as_c: impl FnOnce(&mut [u8]) -> as_c::Answer,
+    as_rust: impl FnOnce(&mut [u8]) -> as_rust::Answer<Decoded>,
 ) -> Checked {
-    if answer.is_err() {
-        stays(tally, question, out)?;
-    }
-    let answer = answer.map(|d| told::decoded(d, out)).map_err(told::refusal);
-    same(tally, question, &answer, expected)
+    decoding_as_c(tally, question, room, expected, as_c)?;
+    let mut out = vec![BEFORE; room];
+    same(tally, question, as_rust(&mut out), expected)?;
+    holds(question, "out", &out, &plaintext(expected, room))
+}
+
+fn decoding_as_c(
+    tally: &mut Tally,
+    question: Question,
+    room: usize,
+    expected: &Result<Decoded, Refusal>,
+    as_c: impl FnOnce(&mut [u8]) -> as_c::Answer,
+) -> Checked {
+    tally.decoding(question, expected);
+    let mut out = vec![BEFORE; room];
+    exactly(tally, question, as_c(&mut out), &layouts::decoding(expected))?;
+    holds(question, "out", &out, &plaintext(expected, room))
+}
+
+fn plaintext(expected: &Result<Decoded, Refusal>, room: usize) -> Vec<u8> {
+    expected.as_ref().map_or_else(|_| vec![BEFORE; room], |d| d.plain.clone())
 }
 
 #[allow(clippy::too_many_arguments)]
-fn summary_decoding(
+fn from_summary(
+    tally: &mut Tally,
+    question: Question,
     case: &Case,
     page: &[u8],
-    fits: &Fits,
-    shifted: &[u8],
+    summary: &Summary,
     anchors: &[u8],
     bits: u8,
     expected: &Result<Decoded, Refusal>,
-    tally: &mut Tally,
 ) -> Checked {
-    let mut out = [BEFORE; PAGE];
-    let answer = lumeviqo::decode_summary(case.number, page, fits, shifted, anchors, options(bits), &mut out);
-    decoding(tally, "decoding from a summary", answer, &out, expected)
+    let as_c = |o: &mut [u8]| as_c::decode_summary(case.number, page, summary, anchors, bits, o);
+    decoding(tally, question, PAGE, expected, as_c, |o| as_rust::decode_summary(case.number, page, summary, anchors, bits, o))
 }
 
-/// A supplied bv, by its own scan for one page in four.
-fn supplied(case: &Case, reading: &Reading<'_>, fits: &Fits, shifted: &[u8], tally: &mut Tally) -> Checked {
-    let expected = reading.decode_supplied(case.bv, case.bits);
-    tally.answer(expected.as_ref().err());
-    if let Ok(d) = &expected {
-        tally.decoded(d);
-    }
-    let mut out = [BEFORE; PAGE];
-    if case.page[4095] % 4 == 0 {
-        let answer = lumeviqo::decode_supplied(case.number, &case.page, case.bv, options(case.bits), &mut out);
-        decoding(tally, "supplied bv", answer, &out, &expected)?;
-        out = [BEFORE; PAGE];
-    }
-    let answer = lumeviqo::decode_supplied_summary(case.number, &case.page, fits, shifted, case.bv, options(case.bits), &mut out);
-    decoding(tally, "supplied bv from a summary", answer, &out, &expected)
+/// More anchors than a byte counts, for one page in fifty more than two bytes do; those that may decide stand last.
+fn many_anchors(case: &Case, reading: &Reading<'_>, summary: &Summary, tally: &mut Tally) -> Checked {
+    let (n, page, bits) = (case.number, &case.page[..], case.bits);
+    let (idle, times) = (case.bv.wrapping_add(128), if n % 50 == 49 { 65_536 } else { 255 + n as usize % 70 });
+    let last = if case.anchors.is_empty() { &[case.bv][..] } else { &case.anchors };
+    let anchors = [&vec![idle; times], last].concat();
+    let expected = reading.decode(&anchors, bits);
+    // Rust has the page scanned, C has the summary: both functions see them all, and a scan is the longest part of a call.
+    let as_c = |o: &mut [u8]| as_c::decode_summary(n, page, summary, &anchors, bits, o);
+    let as_rust = |o: &mut [u8]| as_rust::decode(n, page, &anchors, bits, o);
+    decoding(tally, Question::ManyAnchors, PAGE, &expected, as_c, as_rust)
+        .map_err(|d| Difference { detail: format!("{}\nanchors: {times} times {idle}, then {last:?}", d.detail), ..d })
 }
 
-/// The parse of a plain page, strictly and by the case's options, and each of its rows.
+fn supplied(case: &Case, reading: &Reading<'_>, summary: &Summary, tally: &mut Tally) -> Checked {
+    let (n, page, bv, bits) = (case.number, &case.page[..], case.bv, case.bits);
+    let expected = reading.decode_supplied(bv, bits);
+    let as_c = |o: &mut [u8]| as_c::decode_supplied(n, page, bv, bits, o);
+    decoding(tally, Question::Supplied, PAGE, &expected, as_c, |o| as_rust::decode_supplied(n, page, bv, bits, o))?;
+    let as_c = |o: &mut [u8]| as_c::decode_supplied_summary(n, page, summary, bv, bits, o);
+    let as_rust = |o: &mut [u8]| as_rust::decode_supplied_summary(n, page, summary, bv, bits, o);
+    decoding(tally, Question::SummarySupplied, PAGE, &expected, as_c, as_rust)
+}
+
+/// The parse of a plain page by the case's options, and with DIRECTORY the other way; its rows, each of them, and some that it has not.
 fn rows(case: &Case, plain: &[u8], tally: &mut Tally) -> Checked {
+    let n = case.number;
     for bits in [case.bits, case.bits ^ 2] {
-        let expected = oracle::parse(case.number, plain, bits);
-        tally.answer(expected.as_ref().err());
-        let leniency = Leniency(bits);
-        let parsed = lumeviqo::parse(case.number, plain, leniency);
-        let rows = lumeviqo::rows(case.number, plain, leniency);
-        let answer = match (parsed, rows) {
-            (Ok(p), Ok(rows)) => {
-                let beyond = rows.len();
-                let one_by_one = (0..beyond).map(|r| lumeviqo::row(case.number, plain, leniency, r)).collect();
-                same(tally, "rows one by one", one_by_one, Ok(rows.clone()))?;
-                let none = Refusal { number: 16, values: vec![beyond as u64], candidates: Vec::new() };
-                tally.answer(Some(&none));
-                let row = lumeviqo::row(case.number, plain, leniency, beyond).map(|r| r.offset).map_err(told::refusal);
-                same(tally, "row beyond the last", row, Err(none))?;
-                Ok(told::parsed(p, &rows))
-            }
-            (parsed, rows) => {
-                let p = parsed.map(|_| ()).map_err(told::refusal);
-                same(tally, "rows of what is not parsed", rows.map(|_| ()).map_err(told::refusal), p.clone())?;
-                let first = lumeviqo::row(case.number, plain, leniency, 0).map(|_| ()).map_err(told::refusal);
-                same(tally, "rows of what is not parsed", first, p.clone())?;
-                Err(p.expect_err("one of the two was refused"))
-            }
-        };
-        if let Ok(p) = &expected {
-            tally.parsed(p);
+        let expected = oracle::parse(n, plain, bits);
+        tally.parsed(&expected);
+        exactly(tally, Question::Parse, as_c::parse(n, plain, bits), &layouts::parse(&expected))?;
+        exactly(tally, Question::RowCount, as_c::row_count(n, plain, bits), &layouts::row_count(&expected))?;
+        exactly(tally, Question::Rows, as_c::rows(n, plain, bits), &layouts::rows(&expected))?;
+        same(tally, Question::Rows, as_rust::parse_and_rows(n, plain, bits), &expected)?;
+        let count = expected.as_ref().map(|p| p.rows.len()).map_err(Clone::clone);
+        same(tally, Question::RowCount, as_rust::row_count(n, plain, bits), &count)?;
+
+        let count = count.unwrap_or(0);
+        for row in (0..=count).chain([1 << 16, 1 << 32, usize::MAX]) {
+            let found = layouts::row_of(&expected, row).cloned();
+            tally.answer(Question::Row, found.as_ref().err());
+            exactly(tally, Question::Row, as_c::row(n, plain, bits, row), &layouts::row(&expected, row))?;
+            same(tally, Question::Row, as_rust::row(n, plain, bits, row), &found)?;
         }
-        same(tally, "parse and rows", answer, expected)?;
     }
     Ok(())
 }
 
-/// Answer 1 of every function that takes a page.
-fn wrong_page(case: &Case, refusal: &Refusal, tally: &mut Tally) -> Checked {
-    let (mut out, mut shifted) = ([BEFORE; PAGE], [BEFORE; SHIFTED]);
-    let fits = Fits::default();
-    let (n, p, o) = (case.number, &case.page[..], options(case.bits));
-    let mut page = case.page.clone();
-    let answers = [
-        lumeviqo::scan(n, p, &mut shifted).map(|_| ()),
-        lumeviqo::decode(n, p, &case.anchors, o, &mut out).map(|_| ()),
-        lumeviqo::decode_supplied(n, p, case.bv, o, &mut out).map(|_| ()),
-        lumeviqo::decode_summary(n, p, &fits, &[0; 3], &case.anchors, o, &mut [0; 5]).map(|_| ()),
-        lumeviqo::decode_supplied_summary(n, p, &fits, &[0; 3], case.bv, o, &mut [0; 5]).map(|_| ()),
-        lumeviqo::replace(n, &mut page, &mut shifted, &fits, 0, &[1; 512]).map(|_| ()),
-    ];
-    for answer in answers {
-        tally.answer(Some(refusal));
-        same(tally, "wrong page length", answer.map_err(told::refusal), Err(refusal.clone()))?;
-    }
-    same(tally, "wrong page length", &page, &case.page)?;
-    stays(tally, "wrong page length", &out)?;
-    stays(tally, "wrong page length", &shifted)
+/// Document 01's checks of lengths, in their order.
+fn wrong_length(page: usize, out: Option<usize>, shifted: Option<usize>) -> Option<Refusal> {
+    let wrong = |number: usize, length: usize, right: usize| (length != right).then(|| refused(number, length));
+    wrong(h::WRONG_PAGE_LENGTH, page, PAGE)
+        .or_else(|| wrong(h::WRONG_BUFFER_LENGTH, out?, PAGE))
+        .or_else(|| wrong(h::WRONG_BUFFER_LENGTH, shifted?, SHIFTED))
 }
 
-/// Answer 2, which the original does not have: held against document 01. One case in eight.
-fn buffers(case: &Case, fits: &Fits, shifted: &[u8], tally: &mut Tally) -> Checked {
-    if case.page[4094] % 8 != 0 {
-        return Ok(());
+/// Each function that takes a page and a buffer, where a length is wrong. The original has no buffers: they are document 01's.
+fn lengths(case: &Case, room: usize, shifted: usize, tally: &mut Tally) -> Checked {
+    let (n, page, anchors, bits, bv) = (case.number, &case.page[..], &case.anchors[..], case.bits, case.bv);
+    let summary = &Summary::of_none(vec![BEFORE; shifted]);
+    if let Some(refusal) = wrong_length(page.len(), Some(room), None) {
+        let expected = Err(refusal);
+        let as_c = |o: &mut [u8]| as_c::decode(n, page, anchors, bits, o);
+        decoding(tally, Question::Decoding, room, &expected, as_c, |o| as_rust::decode(n, page, anchors, bits, o))?;
+        let as_c = |o: &mut [u8]| as_c::decode_supplied(n, page, bv, bits, o);
+        decoding(tally, Question::Supplied, room, &expected, as_c, |o| as_rust::decode_supplied(n, page, bv, bits, o))?;
     }
-    let mut r = Random::new(case.number, case.page[4095] as u64);
-    let lengths = [0, 1, 4079, 4081, 4095, 4097];
-    let wrong = |n: usize| Refusal { number: 2, values: vec![n as u64], candidates: Vec::new() };
-    let (n, p, o) = (case.number, &case.page[..], options(case.bits));
-    let (a, b) = (r.of(&lengths), r.of(&lengths));
-    let mut out = vec![BEFORE; a];
-    let mut short = vec![BEFORE; b];
-    let mut page = case.page.clone();
-    let answers = [
-        (lumeviqo::decode(n, p, &case.anchors, o, &mut out).map(|_| ()), wrong(a)),
-        (lumeviqo::decode_summary(n, p, fits, &short, &case.anchors, o, &mut out).map(|_| ()), wrong(a)),
-        (lumeviqo::decode_summary(n, p, fits, &short, &case.anchors, o, &mut [0; PAGE]).map(|_| ()), wrong(b)),
-        (lumeviqo::decode_supplied(n, p, case.bv, o, &mut out).map(|_| ()), wrong(a)),
-        (lumeviqo::decode_supplied_summary(n, p, fits, shifted, case.bv, o, &mut out).map(|_| ()), wrong(a)),
-        (lumeviqo::decode_supplied_summary(n, p, fits, &short, case.bv, o, &mut [0; PAGE]).map(|_| ()), wrong(b)),
-        (lumeviqo::scan(n, p, &mut short).map(|_| ()), wrong(b)),
-        (lumeviqo::replace(n, &mut page, &mut short, fits, 9, &[1; 3]).map(|_| ()), wrong(b)),
-    ];
-    for (answer, expected) in answers {
-        tally.answer(Some(&expected));
-        same(tally, "wrong buffer length", answer.map_err(told::refusal), Err(expected))?;
+    if let Some(refusal) = wrong_length(page.len(), Some(room), Some(shifted)) {
+        let expected = Err(refusal);
+        let as_c = |o: &mut [u8]| as_c::decode_summary(n, page, summary, anchors, bits, o);
+        let as_rust = |o: &mut [u8]| as_rust::decode_summary(n, page, summary, anchors, bits, o);
+        decoding(tally, Question::SummaryDecoding, room, &expected, as_c, as_rust)?;
+        let as_c = |o: &mut [u8]| as_c::decode_supplied_summary(n, page, summary, bv, bits, o);
+        let as_rust = |o: &mut [u8]| as_rust::decode_supplied_summary(n, page, summary, bv, bits, o);
+        decoding(tally, Question::SummarySupplied, room, &expected, as_c, as_rust)?;
     }
-    same(tally, "wrong buffer length", &page, &case.page)?;
-    stays(tally, "wrong buffer length", &out)?;
-    stays(tally, "wrong buffer length", &short)
-}
-
-/// The summary after a sequence of replacements, against a fresh reading of the page as it then stands.
-fn replacements(case: &Case, fits: Fits, shifted: [u8; SHIFTED], tally: &mut Tally) -> Checked {
-    let (mut page, mut fits, mut shifted) = (case.page.clone(), fits, shifted);
-    for (sector, bytes) in &case.replacements {
-        let fitting = *sector < 8 && bytes.len() == if *sector == 7 { 496 } else { 512 };
-        let before = (page.clone(), shifted);
-        let answer = lumeviqo::replace(case.number, &mut page, &mut shifted, &fits, *sector, bytes);
-        match answer {
-            Ok(new) if fitting => fits = new,
-            answer => {
-                let refused = Refusal { number: 14, values: vec![*sector as u64], candidates: Vec::new() };
-                tally.answer(Some(&refused));
-                same(tally, "refused replacement", answer.map(|_| ()).map_err(told::refusal), Err(refused))?;
-                same(tally, "refused replacement", (&page, &shifted[..]), (&before.0, &before.1[..]))?;
-                continue;
-            }
+    if let Some(refusal) = wrong_length(page.len(), None, Some(shifted)) {
+        scan(case, &Err(refusal), shifted, tally)?;
+        for (sector, new) in [(0, &[1; 512][..]), (9, &[1; 3])] {
+            replacement(tally, Question::Replacement, n, &mut page.to_vec(), &mut summary.clone(), sector, new)?;
         }
-        let mut expected = before.0;
-        expected[sector * 512..sector * 512 + bytes.len()].copy_from_slice(bytes);
-        same(tally, "replacement", &page, &expected)?;
+    }
+    Ok(())
+}
+
+/// The case's replacements one after the other, in its own summary and in one of no page, and some that do not fit.
+fn replacements(case: &Case, own: Summary, tally: &mut Tally) -> Checked {
+    let n = case.number;
+    for (sector, length) in [(8, 512), (256, 512), (1 << 32, 512), (7, 512), (6, 496), (0, 0)] {
+        let (mut page, mut summary) = (case.page.clone(), Summary::of_none(own.shifted.clone()));
+        replacement(tally, Question::Replacement, n, &mut page, &mut summary, sector, &vec![1; length])?;
     }
     if case.replacements.is_empty() {
         return Ok(());
     }
-    let reading = Reading::new(case.number, &page).expect("its length is as it was");
-    same(tally, "replacement", told::fits(fits), reading.fits())?;
-    same(tally, "replacement", &shifted[..], &reading.shifted()[..])?;
-    let expected = reading.decode(&case.anchors, 7);
-    summary_decoding(case, &page, &fits, &shifted, &case.anchors, 7, &expected, tally)?;
-    let strict = reading.decode(&case.anchors, 4);
-    summary_decoding(case, &page, &fits, &shifted, &case.anchors, 4, &strict, tally)
+    let (mut page, mut summary) = (case.page.clone(), own);
+    let (mut other_page, mut foreign) = (case.page.clone(), Summary::of_none(Random::new(n, 0).bytes(SHIFTED)));
+    for (sector, new) in &case.replacements {
+        replacement(tally, Question::Replacement, n, &mut page, &mut summary, *sector, new)?;
+        replacement(tally, Question::ForeignReplacement, n, &mut other_page, &mut foreign, *sector, new)?;
+    }
+    // The summary, and what is read from it, are what a fresh reading of the final page gives.
+    let reading = Reading::new(n, &page).expect("its length is as it was");
+    same(tally, Question::Replacement, Ok(summary.clone()), &Summary::of(&reading))?;
+    for bits in [7, 4] {
+        let expected = reading.decode(&case.anchors, bits);
+        from_summary(tally, Question::SummaryDecoding, case, &page, &summary, &case.anchors, bits, &expected)?;
+    }
+    Ok(())
+}
+
+/// Document 01's replacement, by the original's scan of the new sector: its fit and its shifted bytes are those, seven stay.
+fn replaced(n: u64, page: &[u8], summary: &Summary, sector: usize, new: &[u8]) -> Result<(Vec<u8>, Summary), Refusal> {
+    if let Some(refusal) = wrong_length(page.len(), None, Some(summary.shifted.len())) {
+        return Err(refusal);
+    }
+    if sector > 7 || new.len() != if sector == 7 { 496 } else { 512 } {
+        return Err(refused(h::BAD_REPLACEMENT, sector));
+    }
+    let range = sector * 512..sector * 512 + new.len();
+    let (mut page, mut summary) = (page.to_vec(), summary.clone());
+    page[range.clone()].copy_from_slice(new);
+    let (fit, shifted) = oracle::sector(n, &page, sector);
+    summary.fits[sector] = fit;
+    summary.shifted[range].copy_from_slice(&shifted);
+    Ok((page, summary))
+}
+
+/// A replacement, and the page and the summary as they then are.
+fn replacement(
+    tally: &mut Tally,
+    question: Question,
+    n: u64,
+    page: &mut Vec<u8>,
+    summary: &mut Summary,
+    sector: usize,
+    new: &[u8],
+) -> Checked {
+    let expected = replaced(n, page, summary, sector, new);
+    let refusal = expected.as_ref().err();
+    tally.answer(question, refusal);
+    let (after_page, after) = expected.as_ref().cloned().unwrap_or_else(|_| (page.clone(), summary.clone()));
+    let (mut stored, mut lent) = (page.clone(), summary.clone());
+    exactly(tally, question, as_c::replace(n, &mut stored, &mut lent, sector, new), &layouts::fits(refusal, &after.fits))?;
+    holds(question, "stored", &stored, &after_page)?;
+    holds(question, "shifted", &lent.shifted, &after.shifted)?;
+
+    let (mut stored, mut lent) = (page.clone(), summary.clone());
+    let fits = refusal.map_or(Ok(after.fits), |r| Err(r.clone()));
+    same(tally, question, as_rust::replace(n, &mut stored, &mut lent, sector, new), &fits)?;
+    holds(question, "stored", &stored, &after_page)?;
+    holds(question, "shifted", &lent.shifted, &after.shifted)?;
+    (*page, *summary) = (after_page, after);
+    Ok(())
 }

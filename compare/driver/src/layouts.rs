@@ -1,6 +1,6 @@
 //! The original's answers in the layouts of include/lumeviqo.h, written from that page alone: what the library must give, byte for byte.
 use lumeviqo::header as h;
-use oracle::plain::{Decoded, Directory, Fit, Parsed, Refusal, Superblock, Trailer, Warning};
+use oracle::plain::{Decoded, Directory, Fit, Parsed, Refusal, Row, Superblock, Trailer, Warning};
 
 #[derive(Default)]
 struct Layout {
@@ -106,6 +106,11 @@ pub fn superblock(answer: &Result<Superblock, Refusal>) -> Vec<u8> {
     l.up_to(h::SUPERBLOCK_LENGTH)
 }
 
+/// As a caller lends them.
+pub fn lent_fits(fits: &[Fit; 8]) -> Vec<u8> {
+    Layout::default().fits(fits).up_to(h::FITS_LENGTH)
+}
+
 /// A scan, or a replacement, of which the fits stand there though it is refused.
 pub fn fits(refusal: Option<&Refusal>, fits: &[Fit; 8]) -> Vec<u8> {
     Layout::default().answer(refusal).at(h::SCAN_FITS).fits(fits).up_to(h::SCAN_LENGTH)
@@ -149,11 +154,14 @@ pub fn row_count(answer: &Result<Parsed, Refusal>) -> Vec<u8> {
     l.up_to(h::ROW_COUNT_LENGTH)
 }
 
+/// Answer 16 where there is no such row.
+pub fn row_of(answer: &Result<Parsed, Refusal>, row: usize) -> Result<&Row, Refusal> {
+    let none = Refusal { number: h::NO_SUCH_ROW as u8, values: vec![row as u64], candidates: Vec::new() };
+    answer.as_ref().map_err(Clone::clone).and_then(|p| p.rows.get(row).ok_or(none))
+}
+
 pub fn row(answer: &Result<Parsed, Refusal>, row: usize) -> Vec<u8> {
-    let found = answer.as_ref().map_err(Clone::clone).and_then(|p| {
-        let none = Refusal { number: h::NO_SUCH_ROW as u8, values: vec![row as u64], candidates: Vec::new() };
-        p.rows.get(row).ok_or(none)
-    });
+    let found = row_of(answer, row);
     let mut l = answered(&found);
     if let Ok(r) = found {
         l = l.at(h::ROW_START).u16(r.offset).at(h::ROW_END).u16(r.offset + r.bytes.len() as u16);

@@ -5,35 +5,31 @@ use std::time::Instant;
 
 use compare::checks::compare;
 use compare::kinds::case;
+use compare::lent;
 use compare::shrink::{describe, shrink};
 use compare::tally::Tally;
 
-fn main() -> ExitCode {
-    let mut args = std::env::args().skip(1).map(|a| a.parse::<u64>().expect("PAGES and SEED are numbers"));
-    let pages = args.next().unwrap_or(100_000);
-    let seed = args.next().unwrap_or(1);
-    let begun = Instant::now();
-    let threads = std::thread::available_parallelism().map_or(1, |n| n.get());
-    let next = AtomicU64::new(0);
-    let parts: Vec<(Tally, Vec<u64>)> = std::thread::scope(|scope| {
-        let workers: Vec<_> = (0..threads).map(|_| scope.spawn(|| work(&next, pages, seed))).collect();
-        workers.into_iter().map(|w| w.join().expect("a worker does not fail")).collect()
-    });
+/// From so many pages on a run must reach everything. The rarest thing is met once in some hundred pages.
+const FULL: u64 = 2_000;
 
-    let mut tally = Tally::default();
-    let mut differ = Vec::new();
-    for (t, d) in parts {
-        tally.join(t);
-        differ.extend(d);
-    }
-    differ.sort_unstable();
+fn main() -> ExitCode {
+    let (pages, seed) = match arguments(std::env::args().skip(1)) {
+        Ok(told) => told,
+        Err(message) => {
+            eprintln!("compare [PAGES] [SEED]: {message}");
+            return ExitCode::from(2);
+        }
+    };
+    lent::keep_panics_quiet();
+    let begun = Instant::now();
+    let (tally, differ) = run(pages, seed);
     print!("{tally}");
     if let Some(&first) = differ.first() {
         let (small, difference) = shrink(&case(seed, first));
         println!("the first difference is input {first}, at: {}\n{}\n{}", difference.question, difference.detail, describe(&small));
     }
     let missing = tally.missing();
-    if pages >= 10_000 && !missing.is_empty() {
+    if !missing.is_empty() {
         println!("not reached: {}", missing.join(", "));
     }
     let questions: u64 = tally.questions.values().sum();
@@ -43,7 +39,37 @@ fn main() -> ExitCode {
         differ.len(),
         begun.elapsed().as_secs()
     );
-    if differ.is_empty() { ExitCode::SUCCESS } else { ExitCode::FAILURE }
+    if differ.is_empty() && (missing.is_empty() || pages < FULL) { ExitCode::SUCCESS } else { ExitCode::FAILURE }
+}
+
+/// How many pages, and from which seed.
+fn arguments(words: impl Iterator<Item = String>) -> Result<(u64, u64), String> {
+    let numbers = words.map(|w| w.parse().map_err(|_| format!("{w} is not a number"))).collect::<Result<Vec<u64>, _>>()?;
+    match numbers[..] {
+        [] => Ok((100_000, 1)),
+        [0, ..] => Err("0 pages compare nothing".into()),
+        [pages] => Ok((pages, 1)),
+        [pages, seed] => Ok((pages, seed)),
+        _ => Err("there are more than two numbers".into()),
+    }
+}
+
+/// What was met, and which inputs differ.
+fn run(pages: u64, seed: u64) -> (Tally, Vec<u64>) {
+    let threads = std::thread::available_parallelism().map_or(1, |n| n.get());
+    let next = AtomicU64::new(0);
+    let parts: Vec<(Tally, Vec<u64>)> = std::thread::scope(|scope| {
+        let workers: Vec<_> = (0..threads).map(|_| scope.spawn(|| work(&next, pages, seed))).collect();
+        workers.into_iter().map(|w| w.join().expect("a worker does not fail")).collect()
+    });
+    let mut tally = Tally::default();
+    let mut differ = Vec::new();
+    for (t, d) in parts {
+        tally.join(t);
+        differ.extend(d);
+    }
+    differ.sort_unstable();
+    (tally, differ)
 }
 
 fn work(next: &AtomicU64, pages: u64, seed: u64) -> (Tally, Vec<u64>) {

@@ -89,8 +89,12 @@ pub fn parsed(p: lumeviqo::Parsed, rows: &[lumeviqo::Row<'_>]) -> Parsed {
     Parsed {
         directory: p.directory.map(|d| Directory { start: d.start, end: d.end, slots: d.slots, declared: d.declared }),
         warnings: p.warnings.into_iter().map(warning).collect(),
-        rows: rows.iter().map(|r| Row { offset: r.offset, bytes: r.bytes.to_vec(), exact: r.exact() }).collect(),
+        rows: rows.iter().copied().map(row).collect(),
     }
+}
+
+pub fn row(r: lumeviqo::Row<'_>) -> Row {
+    Row { offset: r.offset, bytes: r.bytes.to_vec(), exact: r.exact() }
 }
 
 pub fn trailer(t: lumeviqo::Trailer) -> Trailer {

@@ -15,6 +15,14 @@ pub mod reached {
             Scanned { page, scan: scan_page(page.bytes(), page.index()) }
         }
 
+        /// The scan of a page that has its sectors 0 to 6 in another order, beside this one's bytes.
+        pub fn turned(&self) -> Self {
+            let copy = |s: &SectorScan| SectorScan { step: s.step, peak: s.peak, runner_up: s.runner_up, m: s.m.clone() };
+            let mut sectors: Vec<_> = self.scan.sectors.iter().map(copy).collect();
+            sectors[..SECTORS_PER_PAGE - 1].rotate_left(1);
+            Scanned { page: self.page, scan: PageScan { sectors, counts: self.scan.counts } }
+        }
+
         pub fn fits(&self) -> [(u8, usize, usize, bool); SECTORS_PER_PAGE] {
             std::array::from_fn(|s| {
                 let s = &self.scan.sectors[s];
@@ -29,6 +37,13 @@ pub mod reached {
         pub fn deobfuscate(&self, anchors: &BTreeSet<u8>, opts: &ReadOptions) -> Result<DeobfuscatedPage> {
             judged(self.page, || &self.scan, anchors, opts)
         }
+    }
+
+    /// Of one sector alone, with its shifted bytes.
+    pub fn sector(page: Page<'_>, s: usize) -> ((u8, usize, usize, bool), Vec<u8>) {
+        let (start, end) = sector_range(s);
+        let scan = scan_sector(&page.bytes()[start..end], ap_offset(page.index(), s));
+        ((scan.step, scan.peak, scan.runner_up, scan.is_exact()), scan.m)
     }
 
     pub fn deobfuscate(page: Page<'_>, anchors: &BTreeSet<u8>, opts: &ReadOptions) -> Result<DeobfuscatedPage> {

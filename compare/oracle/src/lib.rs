@@ -62,8 +62,13 @@ impl<'a> Reading<'a> {
         Ok(Reading { page, scanned: Scanned::new(page) })
     }
 
+    /// The page with the summary of another: sectors 0 to 6 in another order.
+    pub fn turned(&self) -> Self {
+        Reading { page: self.page, scanned: self.scanned.turned() }
+    }
+
     pub fn fits(&self) -> [Fit; 8] {
-        self.scanned.fits().map(|(step, peak, runner_up, exact)| Fit { step, peak: narrow(peak), runner_up: narrow(runner_up), exact })
+        self.scanned.fits().map(fit)
     }
 
     pub fn shifted(&self) -> Vec<u8> {
@@ -79,6 +84,13 @@ impl<'a> Reading<'a> {
     pub fn decode_supplied(&self, bv: u8, bits: u8) -> Result<Decoded, Refusal> {
         ApModel::deobfuscate_with_bv(self.page, bv, &options(bits)).map(|d| decoded(&d)).map_err(refusal)
     }
+}
+
+/// The fit and the shifted bytes of one sector of a page, whose length is right.
+pub fn sector(number: u64, bytes: &[u8], s: usize) -> (Fit, Vec<u8>) {
+    let page = page(number, bytes).expect("its length is a page's");
+    let (scanned, shifted) = ap::reached::sector(page, s);
+    (fit(scanned), shifted)
 }
 
 pub fn parse(number: u64, plain: &[u8], bits: u8) -> Result<Parsed, Refusal> {
@@ -114,6 +126,10 @@ pub fn options(bits: u8) -> ReadOptions {
 fn page(number: u64, bytes: &[u8]) -> Result<Page<'_>, Refusal> {
     debug_assert_eq!(PAGE_SIZE, 4096);
     Page::from_bytes(number, bytes).map_err(refusal)
+}
+
+fn fit((step, peak, runner_up, exact): (u8, usize, usize, bool)) -> Fit {
+    Fit { step, peak: narrow(peak), runner_up: narrow(runner_up), exact }
 }
 
 fn narrow(n: usize) -> u16 {
