@@ -8,8 +8,14 @@ use crate::summary::Summary;
 
 pub type Answer = Result<Vec<u8>, Fault>;
 
-/// The original's T.
-const T: u8 = 4;
+/// A T by which the page's row count is judged as by the original's, which is 4.
+pub fn least_count(number: u64, stored: &[u8]) -> u8 {
+    match stored.get(h::SHIFTED_LENGTH) {
+        Some(&n) if n >= 4 => (number % (n as u64 + 1)) as u8,
+        Some(&n) => n + 1 + (number % (255 - n as u64)) as u8,
+        None => 4,
+    }
+}
 
 /// A longer buffer is lent for the answer than it takes: what is behind it must stay.
 fn asked<const N: usize>(length: usize, buffers: [Buffer<'_>; N], call: impl FnOnce([Part; N], *mut u8, usize) -> usize) -> Answer {
@@ -61,32 +67,34 @@ pub fn replace(number: u64, stored: &mut [u8], summary: &mut Summary, sector: us
 }
 
 pub fn decode(number: u64, stored: &[u8], anchors: &[u8], bits: u8, out: &mut [u8]) -> Answer {
+    let t = least_count(number, stored);
     let buffers = [Read("stored", stored), Read("anchors", anchors), Written("out", out)];
     asked(h::DECODING_LENGTH, buffers, |[s, k, o], a, n| unsafe {
-        sys::lumeviqo_decode(number, s.at, s.length, k.at, k.length, bits, T, o.at, o.length, a, n)
+        sys::lumeviqo_decode(number, s.at, s.length, k.at, k.length, bits, t, o.at, o.length, a, n)
     })
 }
 
 pub fn decode_summary(number: u64, stored: &[u8], summary: &Summary, anchors: &[u8], bits: u8, out: &mut [u8]) -> Answer {
-    let fits = summary.lent_fits();
+    let (t, fits) = (least_count(number, stored), summary.lent_fits());
     let buffers =
         [Read("stored", stored), Read("fits", &fits), Read("shifted", &summary.shifted), Read("anchors", anchors), Written("out", out)];
     asked(h::DECODING_LENGTH, buffers, |[s, f, m, k, o], a, n| unsafe {
-        sys::lumeviqo_decode_summary(number, s.at, s.length, f.at, f.length, m.at, m.length, k.at, k.length, bits, T, o.at, o.length, a, n)
+        sys::lumeviqo_decode_summary(number, s.at, s.length, f.at, f.length, m.at, m.length, k.at, k.length, bits, t, o.at, o.length, a, n)
     })
 }
 
 pub fn decode_supplied(number: u64, stored: &[u8], bv: u8, bits: u8, out: &mut [u8]) -> Answer {
+    let t = least_count(number, stored);
     asked(h::DECODING_LENGTH, [Read("stored", stored), Written("out", out)], |[s, o], a, n| unsafe {
-        sys::lumeviqo_decode_supplied(number, s.at, s.length, bv, bits, T, o.at, o.length, a, n)
+        sys::lumeviqo_decode_supplied(number, s.at, s.length, bv, bits, t, o.at, o.length, a, n)
     })
 }
 
 pub fn decode_supplied_summary(number: u64, stored: &[u8], summary: &Summary, bv: u8, bits: u8, out: &mut [u8]) -> Answer {
-    let fits = summary.lent_fits();
+    let (t, fits) = (least_count(number, stored), summary.lent_fits());
     let buffers = [Read("stored", stored), Read("fits", &fits), Read("shifted", &summary.shifted), Written("out", out)];
     asked(h::DECODING_LENGTH, buffers, |[s, f, m, o], a, n| unsafe {
-        sys::lumeviqo_decode_supplied_summary(number, s.at, s.length, f.at, f.length, m.at, m.length, bv, bits, T, o.at, o.length, a, n)
+        sys::lumeviqo_decode_supplied_summary(number, s.at, s.length, f.at, f.length, m.at, m.length, bv, bits, t, o.at, o.length, a, n)
     })
 }
 

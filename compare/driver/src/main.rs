@@ -3,14 +3,14 @@ use std::process::ExitCode;
 use std::sync::atomic::{AtomicU64, Ordering};
 use std::time::Instant;
 
-use compare::checks::compare;
-use compare::kinds::case;
+use compare::checks::{Difference, compare};
+use compare::kinds::{Case, case};
 use compare::lent;
 use compare::shrink::{describe, shrink};
 use compare::tally::Tally;
 
-/// From so many pages on a run must reach everything. The rarest thing is met once in some hundred pages.
-const FULL: u64 = 2_000;
+/// From so many pages on a run must reach everything. The rarest, an unallocated page, is one in some two hundred.
+const FULL: u64 = 5_000;
 
 fn main() -> ExitCode {
     let (pages, seed) = match arguments(std::env::args().skip(1)) {
@@ -24,11 +24,11 @@ fn main() -> ExitCode {
     let begun = Instant::now();
     let (tally, differ) = run(pages, seed);
     print!("{tally}");
-    if let Some(&first) = differ.first() {
-        let (small, difference) = shrink(&case(seed, first));
-        println!("the first difference is input {first}, at: {}\n{}\n{}", difference.question, difference.detail, describe(&small));
+    if let Some((first, difference)) = differ.first() {
+        println!("the first difference is input {first}, {}", told(&case(seed, *first), difference));
     }
-    let missing = tally.missing();
+    // A page that differs is not asked further.
+    let missing = if differ.is_empty() { tally.missing() } else { Vec::new() };
     if !missing.is_empty() {
         println!("not reached: {}", missing.join(", "));
     }
@@ -54,11 +54,21 @@ fn arguments(words: impl Iterator<Item = String>) -> Result<(u64, u64), String> 
     }
 }
 
+/// A difference with its smallest input, or with the input as it was where it does not come again.
+fn told(case: &Case, seen: &Difference) -> String {
+    let Some((small, difference)) = shrink(case) else {
+        return format!("and did not come again, at: {}\n{}\n{}", seen.question, seen.detail, describe(case));
+    };
+    format!("at: {}\n{}\n{}", difference.question, difference.detail, describe(&small))
+}
+
+type Differing = Vec<(u64, Difference)>;
+
 /// What was met, and which inputs differ.
-fn run(pages: u64, seed: u64) -> (Tally, Vec<u64>) {
+fn run(pages: u64, seed: u64) -> (Tally, Differing) {
     let threads = std::thread::available_parallelism().map_or(1, |n| n.get());
     let next = AtomicU64::new(0);
-    let parts: Vec<(Tally, Vec<u64>)> = std::thread::scope(|scope| {
+    let parts: Vec<(Tally, Differing)> = std::thread::scope(|scope| {
         let workers: Vec<_> = (0..threads).map(|_| scope.spawn(|| work(&next, pages, seed))).collect();
         workers.into_iter().map(|w| w.join().expect("a worker does not fail")).collect()
     });
@@ -68,11 +78,11 @@ fn run(pages: u64, seed: u64) -> (Tally, Vec<u64>) {
         tally.join(t);
         differ.extend(d);
     }
-    differ.sort_unstable();
+    differ.sort_unstable_by_key(|d| d.0);
     (tally, differ)
 }
 
-fn work(next: &AtomicU64, pages: u64, seed: u64) -> (Tally, Vec<u64>) {
+fn work(next: &AtomicU64, pages: u64, seed: u64) -> (Tally, Differing) {
     let mut tally = Tally::default();
     let mut differ = Vec::new();
     loop {
@@ -80,8 +90,8 @@ fn work(next: &AtomicU64, pages: u64, seed: u64) -> (Tally, Vec<u64>) {
         if index >= pages {
             return (tally, differ);
         }
-        if compare(&case(seed, index), &mut tally).is_err() {
-            differ.push(index);
+        if let Err(difference) = compare(&case(seed, index), &mut tally) {
+            differ.push((index, difference));
         }
     }
 }

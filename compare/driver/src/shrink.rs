@@ -1,4 +1,5 @@
 //! A smaller case on which the two sides still differ.
+use crate::as_c::least_count;
 use crate::checks::{Difference, compare};
 use crate::kinds::{Case, recrc};
 use crate::tally::Tally;
@@ -7,10 +8,11 @@ fn differs(case: &Case) -> Option<Difference> {
     compare(case, &mut Tally::default()).err()
 }
 
-/// Leaves out anchors, options, replacements and the plain page, and clears bytes, as long as the same question differs.
-pub fn shrink(case: &Case) -> (Case, Difference) {
+/// Leaves out anchors, options, replacements and the plain page, and clears bytes, as long as the same question differs. None where it does not
+/// differ when it is asked again.
+pub fn shrink(case: &Case) -> Option<(Case, Difference)> {
     let mut best = case.clone();
-    let mut found = differs(case).expect("the case differs");
+    let mut found = differs(case)?;
     let question = found.question;
     let mut attempt = |best: &mut Case, change: &dyn Fn(&mut Case)| {
         let mut next = best.clone();
@@ -55,12 +57,13 @@ pub fn shrink(case: &Case) -> (Case, Difference) {
         // Single bytes only where few are left: each attempt reads the page anew.
         size = if size == 16 && best.page.iter().filter(|&&b| b != 0).count() > 400 { 0 } else { size / 2 };
     }
-    (best, found)
+    Some((best, found))
 }
 
 /// A case in words and hexadecimal; its page as a frame of `report`.
 pub fn describe(case: &Case) -> String {
     let mut out = format!("kind: {}\npage number: {}\noptions: {}\nsupplied bv: {}\n", case.kind, case.number, case.bits, case.bv);
+    out += &format!("T: 4, as C asks {}\n", least_count(case.number, &case.page));
     out += &format!("anchors: {:?}\nstored page, {} bytes: {}\n", case.anchors, case.page.len(), runs(&case.page));
     if let Some(plain) = &case.plain {
         out += &format!("plain page, {} bytes: {}\n", plain.len(), runs(plain));
