@@ -25,6 +25,13 @@ pub struct Difference {
 
 type Checked = Result<(), Difference>;
 
+impl Difference {
+    /// What was asked, where the case does not say it.
+    fn asked(self, what: String) -> Self {
+        Difference { detail: format!("{}\nasked with {what}", self.detail), ..self }
+    }
+}
+
 pub fn compare(case: &Case, tally: &mut Tally) -> Checked {
     *tally.pages.entry(case.kind).or_default() += 1;
     fields(case, tally)?;
@@ -189,6 +196,7 @@ fn from_summary(
 ) -> Checked {
     let as_c = |o: &mut [u8]| as_c::decode_summary(case.number, page, summary, anchors, bits, o);
     decoding(tally, question, PAGE, expected, as_c, |o| as_rust::decode_summary(case.number, page, summary, anchors, bits, o))
+        .map_err(|d| d.asked(format!("options {bits}, anchors {anchors:?}")))
 }
 
 /// More anchors than a byte counts, for one page in fifty more than two bytes do; those that may decide stand last.
@@ -202,7 +210,7 @@ fn many_anchors(case: &Case, reading: &Reading<'_>, summary: &Summary, tally: &m
     let as_c = |o: &mut [u8]| as_c::decode_summary(n, page, summary, &anchors, bits, o);
     let as_rust = |o: &mut [u8]| as_rust::decode(n, page, &anchors, bits, o);
     decoding(tally, Question::ManyAnchors, PAGE, &expected, as_c, as_rust)
-        .map_err(|d| Difference { detail: format!("{}\nanchors: {times} times {idle}, then {last:?}", d.detail), ..d })
+        .map_err(|d| d.asked(format!("options {bits}, anchors {times} times {idle}, then {last:?}")))
 }
 
 fn supplied(case: &Case, reading: &Reading<'_>, summary: &Summary, tally: &mut Tally) -> Checked {
@@ -215,26 +223,31 @@ fn supplied(case: &Case, reading: &Reading<'_>, summary: &Summary, tally: &mut T
     decoding(tally, Question::SummarySupplied, PAGE, &expected, as_c, as_rust)
 }
 
-/// The parse of a plain page by the case's options, and with DIRECTORY the other way; its rows, each of them, and some that it has not.
+/// By the case's options, and with DIRECTORY the other way.
 fn rows(case: &Case, plain: &[u8], tally: &mut Tally) -> Checked {
-    let n = case.number;
-    for bits in [case.bits, case.bits ^ 2] {
-        let expected = oracle::parse(n, plain, bits);
-        tally.parsed(&expected);
-        exactly(tally, Question::Parse, as_c::parse(n, plain, bits), &layouts::parse(&expected))?;
-        exactly(tally, Question::RowCount, as_c::row_count(n, plain, bits), &layouts::row_count(&expected))?;
-        exactly(tally, Question::Rows, as_c::rows(n, plain, bits), &layouts::rows(&expected))?;
-        same(tally, Question::Rows, as_rust::parse_and_rows(n, plain, bits), &expected)?;
-        let count = expected.as_ref().map(|p| p.rows.len()).map_err(Clone::clone);
-        same(tally, Question::RowCount, as_rust::row_count(n, plain, bits), &count)?;
+    [case.bits, case.bits ^ 2]
+        .into_iter()
+        .try_for_each(|bits| rows_by(case.number, plain, bits, tally).map_err(|d| d.asked(format!("options {bits}"))))
+}
 
-        let count = count.unwrap_or(0);
-        for row in (0..=count).chain([1 << 16, 1 << 32, usize::MAX]) {
-            let found = layouts::row_of(&expected, row).cloned();
-            tally.answer(Question::Row, found.as_ref().err());
-            exactly(tally, Question::Row, as_c::row(n, plain, bits, row), &layouts::row(&expected, row))?;
-            same(tally, Question::Row, as_rust::row(n, plain, bits, row), &found)?;
-        }
+/// The parse of a plain page, its rows, each of them, and some that it has not.
+fn rows_by(n: u64, plain: &[u8], bits: u8, tally: &mut Tally) -> Checked {
+    let expected = oracle::parse(n, plain, bits);
+    tally.parsed(&expected);
+    exactly(tally, Question::Parse, as_c::parse(n, plain, bits), &layouts::parse(&expected))?;
+    exactly(tally, Question::RowCount, as_c::row_count(n, plain, bits), &layouts::row_count(&expected))?;
+    exactly(tally, Question::Rows, as_c::rows(n, plain, bits), &layouts::rows(&expected))?;
+    same(tally, Question::Rows, as_rust::parse_and_rows(n, plain, bits), &expected)?;
+    let count = expected.as_ref().map(|p| p.rows.len()).map_err(Clone::clone);
+    same(tally, Question::RowCount, as_rust::row_count(n, plain, bits), &count)?;
+
+    let count = count.unwrap_or(0);
+    for row in (0..=count).chain([1 << 16, 1 << 32, usize::MAX]) {
+        let found = layouts::row_of(&expected, row).cloned();
+        tally.answer(Question::Row, found.as_ref().err());
+        exactly(tally, Question::Row, as_c::row(n, plain, bits, row), &layouts::row(&expected, row))
+            .and_then(|()| same(tally, Question::Row, as_rust::row(n, plain, bits, row), &found))
+            .map_err(|d| d.asked(format!("row {row}")))?;
     }
     Ok(())
 }
@@ -247,8 +260,12 @@ fn wrong_length(page: usize, out: Option<usize>, shifted: Option<usize>) -> Opti
         .or_else(|| wrong(h::WRONG_BUFFER_LENGTH, shifted?, SHIFTED))
 }
 
-/// Each function that takes a page and a buffer, where a length is wrong. The original has no buffers: they are document 01's.
 fn lengths(case: &Case, room: usize, shifted: usize, tally: &mut Tally) -> Checked {
+    wrong_lengths(case, room, shifted, tally).map_err(|d| d.asked(format!("room for {room} plain bytes and {shifted} shifted ones")))
+}
+
+/// Each function that takes a page and a buffer, where a length is wrong. The original has no buffers: they are document 01's.
+fn wrong_lengths(case: &Case, room: usize, shifted: usize, tally: &mut Tally) -> Checked {
     let (n, page, anchors, bits, bv) = (case.number, &case.page[..], &case.anchors[..], case.bits, case.bv);
     let summary = &Summary::of_none(vec![BEFORE; shifted]);
     if let Some(refusal) = wrong_length(page.len(), Some(room), None) {
@@ -319,8 +336,21 @@ fn replaced(n: u64, page: &[u8], summary: &Summary, sector: usize, new: &[u8]) -
     Ok((page, summary))
 }
 
-/// A replacement, and the page and the summary as they then are.
 fn replacement(
+    tally: &mut Tally,
+    question: Question,
+    n: u64,
+    page: &mut Vec<u8>,
+    summary: &mut Summary,
+    sector: usize,
+    new: &[u8],
+) -> Checked {
+    replacement_held(tally, question, n, page, summary, sector, new)
+        .map_err(|d| d.asked(format!("{} new bytes of sector {sector}", new.len())))
+}
+
+/// A replacement, and the page and the summary as they then are.
+fn replacement_held(
     tally: &mut Tally,
     question: Question,
     n: u64,

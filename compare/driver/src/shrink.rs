@@ -27,7 +27,12 @@ pub fn shrink(case: &Case) -> Option<(Case, Difference)> {
     attempt(&mut best, &|c| c.plain = None);
     attempt(&mut best, &|c| c.anchors.clear());
     while !best.anchors.is_empty() && attempt(&mut best, &|c| c.anchors.truncate(c.anchors.len() - 1)) {}
-    while !best.replacements.is_empty() && attempt(&mut best, &|c| c.replacements.truncate(c.replacements.len() - 1)) {}
+    for k in (0..best.replacements.len()).rev() {
+        attempt(&mut best, &|c| drop(c.replacements.remove(k)));
+    }
+    for k in 0..best.replacements.len() {
+        attempt(&mut best, &|c| c.replacements[k].1.fill(0));
+    }
     for bits in [0, 1, 2, 4, 7] {
         attempt(&mut best, &|c| c.bits = bits);
     }
