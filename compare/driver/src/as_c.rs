@@ -18,7 +18,7 @@ pub fn least_count(number: u64, stored: &[u8]) -> u8 {
 }
 
 /// A longer buffer is lent for the answer than it takes: what is behind it must stay.
-fn asked<const N: usize>(length: usize, buffers: [Buffer<'_>; N], call: impl FnOnce([Part; N], *mut u8, usize) -> usize) -> Answer {
+fn asked<const N: usize>(length: usize, buffers: [Buffer<'_>; N], call: impl FnOnce([Part<'_>; N], *mut u8, usize) -> usize) -> Answer {
     let mut answer = Lent::new(&vec![BEFORE; length]);
     let at = answer.part().at;
     let written = lend(buffers, |parts| call(parts, at, length + GUARD))?;

@@ -42,12 +42,12 @@ pub fn superblock_checked(stored: &[u8]) -> Answer<Superblock> {
 
 pub fn scan(number: u64, stored: &[u8], shifted: &mut [u8]) -> Answer<[Fit; 8]> {
     let buffers = [Read("stored", stored), Written("shifted", shifted)];
-    lend(buffers, |[s, m]| lumeviqo::scan(number, s.bytes(), m.bytes_mut()).map(told::fits).map_err(told::refusal))
+    lend(buffers, |[s, mut m]| lumeviqo::scan(number, s.bytes(), m.bytes_mut()).map(told::fits).map_err(told::refusal))
 }
 
 pub fn replace(number: u64, stored: &mut [u8], summary: &mut Summary, sector: usize, new: &[u8]) -> Answer<[Fit; 8]> {
     let fits = summary.typed_fits();
-    lend([Written("stored", stored), Written("shifted", &mut summary.shifted), Read("new", new)], |[s, m, b]| {
+    lend([Written("stored", stored), Written("shifted", &mut summary.shifted), Read("new", new)], |[mut s, mut m, b]| {
         let answer = lumeviqo::replace(number, s.bytes_mut(), m.bytes_mut(), &fits, sector, b.bytes());
         answer.map(told::fits).map_err(told::refusal)
     })
@@ -58,7 +58,7 @@ fn decoded(answer: Result<Decoding, lumeviqo::Refusal>, out: &[u8]) -> Result<De
 }
 
 pub fn decode(number: u64, stored: &[u8], anchors: &[u8], bits: u8, out: &mut [u8]) -> Answer<Decoded> {
-    lend([Read("stored", stored), Read("anchors", anchors), Written("out", out)], |[s, k, o]| {
+    lend([Read("stored", stored), Read("anchors", anchors), Written("out", out)], |[s, k, mut o]| {
         decoded(lumeviqo::decode(number, s.bytes(), k.bytes(), options(bits), o.bytes_mut()), o.bytes())
     })
 }
@@ -66,21 +66,21 @@ pub fn decode(number: u64, stored: &[u8], anchors: &[u8], bits: u8, out: &mut [u
 pub fn decode_summary(number: u64, stored: &[u8], summary: &Summary, anchors: &[u8], bits: u8, out: &mut [u8]) -> Answer<Decoded> {
     let fits = summary.typed_fits();
     let buffers = [Read("stored", stored), Read("shifted", &summary.shifted), Read("anchors", anchors), Written("out", out)];
-    lend(buffers, |[s, m, k, o]| {
+    lend(buffers, |[s, m, k, mut o]| {
         let answer = lumeviqo::decode_summary(number, s.bytes(), &fits, m.bytes(), k.bytes(), options(bits), o.bytes_mut());
         decoded(answer, o.bytes())
     })
 }
 
 pub fn decode_supplied(number: u64, stored: &[u8], bv: u8, bits: u8, out: &mut [u8]) -> Answer<Decoded> {
-    lend([Read("stored", stored), Written("out", out)], |[s, o]| {
+    lend([Read("stored", stored), Written("out", out)], |[s, mut o]| {
         decoded(lumeviqo::decode_supplied(number, s.bytes(), bv, options(bits), o.bytes_mut()), o.bytes())
     })
 }
 
 pub fn decode_supplied_summary(number: u64, stored: &[u8], summary: &Summary, bv: u8, bits: u8, out: &mut [u8]) -> Answer<Decoded> {
     let fits = summary.typed_fits();
-    lend([Read("stored", stored), Read("shifted", &summary.shifted), Written("out", out)], |[s, m, o]| {
+    lend([Read("stored", stored), Read("shifted", &summary.shifted), Written("out", out)], |[s, m, mut o]| {
         let answer = lumeviqo::decode_supplied_summary(number, s.bytes(), &fits, m.bytes(), bv, options(bits), o.bytes_mut());
         decoded(answer, o.bytes())
     })

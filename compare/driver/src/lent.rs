@@ -1,5 +1,6 @@
 //! Buffers as they are lent for one call: copies between guards, all of which are looked at when the call is over.
 use std::cell::Cell;
+use std::marker::PhantomData;
 use std::panic::{AssertUnwindSafe, catch_unwind, set_hook, take_hook};
 use std::slice;
 
@@ -45,19 +46,19 @@ fn unwritten(name: &str, before: &[u8], after: &[u8]) -> Result<(), Fault> {
 }
 
 /// A buffer as a function takes it.
-#[derive(Clone, Copy)]
-pub struct Part {
+pub struct Part<'a> {
     pub at: *mut u8,
     pub length: usize,
+    copy: PhantomData<&'a mut Lent>,
 }
 
-impl Part {
-    pub fn bytes<'a>(self) -> &'a [u8] {
-        // It is a part of the copy that `lend` keeps until the call is over.
+impl Part<'_> {
+    pub fn bytes(&self) -> &[u8] {
+        // So many bytes of the copy stand there, and it is lent for as long as the part is.
         unsafe { slice::from_raw_parts(self.at, self.length) }
     }
 
-    pub fn bytes_mut<'a>(self) -> &'a mut [u8] {
+    pub fn bytes_mut(&mut self) -> &mut [u8] {
         unsafe { slice::from_raw_parts_mut(self.at, self.length) }
     }
 }
@@ -72,9 +73,9 @@ impl Lent {
         Lent { guarded: [&[BEFORE; GUARD], bytes, &[BEFORE; GUARD]].concat() }
     }
 
-    pub fn part(&mut self) -> Part {
+    pub fn part(&mut self) -> Part<'_> {
         let length = self.guarded.len() - 2 * GUARD;
-        Part { at: self.guarded.as_mut_ptr().wrapping_add(GUARD), length }
+        Part { at: self.guarded.as_mut_ptr().wrapping_add(GUARD), length, copy: PhantomData }
     }
 
     /// What it holds, if its guards are as they were.
@@ -95,7 +96,7 @@ thread_local! {
 }
 
 /// A call with such copies. A panic is a fault: the binding has no case for what it was given.
-pub fn lend<const N: usize, A>(buffers: [Buffer<'_>; N], call: impl FnOnce([Part; N]) -> A) -> Result<A, Fault> {
+pub fn lend<const N: usize, A>(buffers: [Buffer<'_>; N], call: impl FnOnce([Part<'_>; N]) -> A) -> Result<A, Fault> {
     let mut lent = buffers.each_ref().map(|b| Lent::new(b.bytes()));
     let parts = lent.each_mut().map(Lent::part);
     LENDING.set(true);
