@@ -7,7 +7,7 @@ use lumeviqo::{PAGE, SHIFTED};
 use oracle::Reading;
 use oracle::plain::{Decoded, Fit, Refusal};
 
-use crate::kinds::Case;
+use crate::kinds::{Case, MARKER};
 use crate::lent::{BEFORE, Fault};
 use crate::questions::Question;
 use crate::random::Random;
@@ -97,6 +97,16 @@ fn fields(case: &Case, tally: &mut Tally) -> Checked {
     exactly(tally, Question::Integrity, as_c::integrity(case.number, page), &layouts::integrity(&integrity))?;
     same(tally, Question::Integrity, as_rust::integrity(case.number, page), &integrity)?;
 
+    superblocks(page, tally)?;
+    if page.len() < PAGE {
+        return Ok(());
+    }
+    let (at, marked) = marked(page, &mut r);
+    let put = &marked[at..page.len().min(at + MARKER.len())];
+    superblocks(&marked, tally).map_err(|d| d.asked(format!("the magic, and at {at}: {}", hex(put))))
+}
+
+fn superblocks(page: &[u8], tally: &mut Tally) -> Checked {
     let superblock = oracle::superblock(page);
     tally.answer(Question::Superblock, superblock.as_ref().err());
     exactly(tally, Question::Superblock, as_c::superblock(page), &layouts::superblock(&superblock))?;
@@ -106,6 +116,20 @@ fn fields(case: &Case, tally: &mut Tally) -> Checked {
     tally.answer(Question::CheckedSuperblock, checked.as_ref().err());
     exactly(tally, Question::CheckedSuperblock, as_c::superblock_checked(page), &layouts::superblock(&checked))?;
     same(tally, Question::CheckedSuperblock, as_rust::superblock_checked(page), &checked)
+}
+
+/// The page with the magic, and with the marker somewhere: a made page has it only where its CRC is not. At times a bit is off, or its end cut off.
+fn marked(page: &[u8], r: &mut Random) -> (usize, Vec<u8>) {
+    let mut page = page.to_vec();
+    let last = page.len() - MARKER.len();
+    let at = if r.one_in(2) { r.of(&[0, last - 1, last, last + 1]) } else { r.below(page.len()) };
+    let n = MARKER.len().min(page.len() - at);
+    page[0x14..0x18].copy_from_slice(&0xDA7A_BA5E_u32.to_le_bytes());
+    page[at..at + n].copy_from_slice(&MARKER[..n]);
+    if r.one_in(4) {
+        page[at + r.below(n)] ^= 1 << r.below(8);
+    }
+    (at, page)
 }
 
 /// Scan, decodings and replacements of a page of the right length.

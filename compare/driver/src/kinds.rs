@@ -17,6 +17,9 @@ pub struct Case {
     pub replacements: Vec<(usize, Vec<u8>)>,
 }
 
+/// The engine's copyright text, which a superblock has somewhere.
+pub const MARKER: &[u8; 33] = b"SAP SE, Copyright (c)2015 17.0.4.";
+
 type Maker = fn(&mut Random) -> Case;
 
 /// Each kind with its share of the inputs.
@@ -494,10 +497,9 @@ fn superblock(r: &mut Random) -> Case {
         let magic: u32 = if r.one_in(4) { 0xDA7A_BA5E ^ (1 << r.below(32)) } else { 0xDA7A_BA5E };
         case.page[0x14..0x18].copy_from_slice(&magic.to_le_bytes());
     }
-    let marker = b"SAP SE, Copyright (c)2015 17.0.4.";
     if !r.one_in(3) {
         let at = r.of(&[0, 1, 0x400, 4096 - 33, 4096 - 34, 4096 - 33, 2000]);
-        case.page[at..at + 33].copy_from_slice(marker);
+        case.page[at..at + 33].copy_from_slice(MARKER);
         if r.one_in(3) {
             case.page[at + r.below(33)] ^= 1;
         }
