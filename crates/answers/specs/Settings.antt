@@ -11,6 +11,13 @@ leniencyOf bits = record { bits = bits }
 abbrev pub optionsOf : ℕ → ℕ → Options
 optionsOf bits t = record { leniency = leniencyOf bits; «min_trailer_count» = t }
 
+-- "by default the commit's value": T where none is given, as verify.rs's MIN_TRAILER_COUNT has it; and a reading that relaxes nothing
+abbrev pub minTrailerCount : ℕ
+minTrailerCount = 4
+
+abbrev pub strictOptions : Options
+strictOptions = optionsOf 0 minTrailerCount
+
 -- "KEYSTREAM (value 1)", "DIRECTORY (value 2)", "INTEGRITY (value 4)": the bits that relax a check
 abbrev pub hasKeystream : ℕ → Bool
 hasKeystream bits = hasBit bits 1

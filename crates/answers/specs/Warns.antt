@@ -1,4 +1,5 @@
--- The warnings: each stands for the answer that leniency turned into it, and has that answer's number. Assumes nothing.
+-- The warnings: each has the number of the answer of its kind. It is the answer that a strict reading gives, but for row counts 1 to 3 with several
+-- starts, where that is 8 and the warning 11. Assumes nothing.
 use Prim.Native.Nat.{ℕ, _+_}
 use mathlib.Core.List.{List, [], _∷_}
 use lib.Dec.{leb}

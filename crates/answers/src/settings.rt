@@ -1,6 +1,6 @@
 // What a reader may relax, and from which row count on the row-count test counts.
 ghost use mathlib.Core.Path.{_≡_};
-ghost use Rattle.answers.specs.Settings.{leniencyOf, optionsOf, hasKeystream, hasDirectory, hasIntegrity, keystream, directory, integrity};
+ghost use Rattle.answers.specs.Settings.{leniencyOf, optionsOf, hasKeystream, hasDirectory, hasIntegrity, keystream, directory, integrity, strictOptions};
 
 // The checks that are relaxed. Other bits mean nothing.
 pub struct Leniency {
@@ -64,7 +64,7 @@ impl Options {
 
     // Nothing relaxed, and the original's T.
     pub fn strict() -> Self
-        ensures { λ r. ⌜ r ≡ optionsOf 0 4 ⌝ }
+        ensures { λ r. ⌜ r ≡ strictOptions ⌝ }
     {
         Options::new(0, Options::MIN_TRAILER_COUNT)
     }

@@ -11,7 +11,7 @@ use lib.Dec.{leb}
 use borrow.Author.Tests.{leb-true, leb-false}
 use Rattle.lists.specs.Cases.{pick}
 use Rattle.slots.specs.Slots.{scanFrom, stronger, noScan, bestScan, directoryFrom, scannedDirectory}
-use Rattle.slots.specs.Best.{More, Not-more, Best}
+use Rattle.slots.specs.Best.{More, Not-more, Best, ScanFinds}
 use Rattle.slots.specs.declared.scans.Scan.{Scan}
 use Rattle.slots.specs.declared.scans.Found.{Found}
 use Rattle.slots.specs.declared.scans.Found.the-variants.{Directory, Nothing}
@@ -111,3 +111,6 @@ module _ (lim : ℕ) (p : List ℕ) where
       go true k h z = absurd (false≢true (sym (ap some z)))
       go false k (inl h) z = few (h .1 s l) (leb-false 4 (b .live) k)
       go false k (inr h) z = few (h .none-better s l) (leb-false 4 (b .live) k)
+
+pub scan-finds : ScanFinds
+scan-finds = record { best = scanned-best; nothing = scanned-nothing }

@@ -13,7 +13,7 @@ use Rattle.lists.specs.Cases.{pick}
 use Rattle.lists.specs.Bytes.{pairAt}
 use Rattle.lists.proofs.Booleans.{and-left, and-right}
 use Rattle.slots.specs.Slots.{liveOf, declaredSlots, runOf, whole, longer, firstNoted, noted, gapNoted, fieldNoted, preludeOf}
-use Rattle.slots.specs.Starts.{Place, Before, Fits, Longest, Tells}
+use Rattle.slots.specs.Starts.{Place, Before, Fits, Longest, Tells, PreludeTells}
 use Rattle.slots.specs.declared.preludes.Prelude.{Prelude}
 use Rattle.slots.specs.declared.preludes.Prelude.the-variants.{Missing, Truncated, One, Several}
 use Rattle.slots.proofs.Fields.{maybe-whole, maybe-longer, declared-few}
@@ -242,3 +242,6 @@ pub prelude-tells : (lim : ℕ) (p : List ℕ) (n : ℕ) → Tells (Place lim p 
 unfolding preludeOf Tells
 prelude-tells zero p n = (λ s h. not-suc-le-zero (h .place .below), λ f g h. absurd (not-suc-le-zero (h .below)))
 prelude-tells (suc f) p n = field-tells p n f (preludeOf f p n) (prelude-tells f p n)
+
+pub prelude-means : PreludeTells
+prelude-means = record { tells = prelude-tells }

@@ -4,8 +4,9 @@ use Prim.Native.Nat.{ℕ, _≤_, _<_}
 use mathlib.Core.Path.{_≡_}
 use mathlib.Core.List.{List}
 use mathlib.Core.Logic.{_⊎_}
-use Rattle.slots.specs.Slots.{scanFrom}
+use Rattle.slots.specs.Slots.{scanFrom, scannedDirectory}
 use Rattle.slots.specs.declared.scans.Scan.{Scan}
+use Rattle.slots.specs.declared.scans.Found.the-variants.{Directory, Nothing}
 
 -- c has more than b: more live slots, or as many and more slots
 abbrev pub More : Scan → Scan → Type 0
@@ -21,3 +22,10 @@ pub record Best (lim : ℕ) (plain : List ℕ) (n : ℕ) (d : Scan) : Type 0 whe
   pub is-scan : d ≡ scanFrom lim plain from
   pub none-better : (s : ℕ) → s < n → Not-more d (scanFrom lim plain s)
   pub earlier-worse : (s : ℕ) → s < from → More (scanFrom lim plain s) d
+
+-- ---- the theorem
+
+-- "fewer than 4 live gives nothing"
+pub record ScanFinds : Type 0 where
+  pub best : (lim : ℕ) (plain : List ℕ) (d : Scan) → scannedDirectory lim plain ≡ Directory d → Best lim plain lim d × (4 ≤ d .live)
+  pub nothing : (lim : ℕ) (plain : List ℕ) → scannedDirectory lim plain ≡ Nothing → (s : ℕ) → s < lim → scanFrom lim plain s .live < 4

@@ -3,4 +3,5 @@
 pub mod Slots
 pub mod Best
 pub mod Starts
+-- private
 pub mod Sweep

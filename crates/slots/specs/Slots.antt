@@ -14,7 +14,8 @@ use Rattle.slots.specs.declared.preludes.Run.{Run}
 use Rattle.slots.specs.declared.preludes.Prelude.{Prelude}
 use Rattle.slots.specs.declared.preludes.Prelude.the-variants.{Missing, Truncated, One, Several}
 
--- "from each start 0 to 0x2FF", "a field 0 to 0x2FF": the directory stands in the first 768 bytes, as slotted.rs's SEARCH_LIMIT has it
+-- "from each start 0 to 0x2FF", "a field 0 to 0x2FF": a scan stays in the first 768 bytes, and a prelude's field stands there, as slotted.rs's
+-- SEARCH_LIMIT has it
 abbrev pub searchLimit : ℕ
 searchLimit = 0x300
 

@@ -7,7 +7,7 @@ use mathlib.Core.Logic.{_⊎_}
 use mathlib.Core.Bool.{true, false}
 use lib.ListN.{length}
 use Rattle.lists.specs.Bytes.{pairAt}
-use Rattle.slots.specs.Slots.{isOffset, dataEnd, liveOf, declaredSlots, runOf, whole}
+use Rattle.slots.specs.Slots.{isOffset, dataEnd, liveOf, declaredSlots, runOf, whole, preludeOf}
 use Rattle.slots.specs.declared.preludes.Prelude.{Prelude}
 use Rattle.slots.specs.declared.preludes.Prelude.the-variants.{Missing, Truncated, One, Several}
 
@@ -66,3 +66,8 @@ Tells At plain n Missing = ((s : ℕ) → Fits At plain n s → ⊥) × ((f g : 
 Tells At plain n (Truncated found stop) = ((s : ℕ) → Fits At plain n s → ⊥) × Longest At plain n found stop
 Tells At plain n (One start) = Fits At plain n start × ((s : ℕ) → Fits At plain n s → s ≡ start)
 Tells At plain n Several = (x : ℕ) × ((y : ℕ) × (Fits At plain n x × Fits At plain n y × (x ≡ y → ⊥)))
+
+-- ---- the theorem
+
+pub record PreludeTells : Type 0 where
+  pub tells : (lim : ℕ) (plain : List ℕ) (n : ℕ) → Tells (Place lim plain n) plain n (preludeOf lim plain n)

@@ -25,7 +25,7 @@ use Rattle.slotted.specs.declared.verdicts.Declared.the-variants.{Count,
 use Rattle.slotted.specs.declared.verdicts.Listed.{Listed}
 use Rattle.slotted.specs.declared.verdicts.Decided.{Decided}
 
--- the answers 0, 1 and 8 to 12, each with the page number
+-- the answers 0, 1 and 8 to 12, these last with the page number
 abbrev pub answerOf : ℕ → Verdict → Answer
 answerOf number Accepted = answer.Accepted
 answerOf number (WrongLength n) = answer.WrongPageLength n
@@ -64,7 +64,7 @@ fewOf (prelude.One s) n true = verdictTaken (declaredAt s n) warning.UnverifiedD
 fewOf prelude.Several n false = verdictRefused (NoDirectory CountBelowFour)
 fewOf prelude.Several n true = verdictTaken nothingListed warning.AmbiguousSlotDirectory warning.Nothing
 
--- the reasons of 8 that a scan gives: "2 fewer than 8 live; 3 unconfirmed". From 8 live slots on a scan counts as a directory
+-- the reasons of 8 that a scan gives: "2 fewer than 8 live; 3 unconfirmed", as slotted.rs's MIN_LIVE_SLOTS has it
 abbrev pub reasonOf : ℕ → Reason
 reasonOf live = pick (ltb live 8) FewerThanEightLive Unconfirmed
 
