@@ -71,7 +71,7 @@ extern "C" {
 #define LUMEVIQO_FITS_LENGTH (LUMEVIQO_SECTOR_COUNT * LUMEVIQO_FIT_LENGTH)
 
 /* Warning. */
-#define LUMEVIQO_WARNING_NUMBER 0     /* u8       of the answer that it stands for, 3 to 12; 0 in an unused place */
+#define LUMEVIQO_WARNING_NUMBER 0     /* u8       of the answer of its kind, 3 to 12; 0 in an unused place */
 #define LUMEVIQO_WARNING_PAGE 1       /* u64      page number */
 #define LUMEVIQO_WARNING_VALUES 9     /* 3 x u64  in the order given beside each LUMEVIQO_WARNED_..; unused ones are 0 */
 #define LUMEVIQO_WARNING_LENGTH 33

@@ -1,11 +1,12 @@
 -- DEMAND 2, proved. Assumes nothing.
-use Prim.Native.Nat.{ℕ, _+_, _-_, _*_, _%_, _<_}
+use Prim.Native.Nat.{ℕ, _+_, _-_, _*_, _%_, _≤_, _<_}
 use mathlib.Core.Path.{_≡_, sym, ap, ap₂, _∙_, subst}
-use mathlib.Core.Bool.{true, false}
+use mathlib.Core.Bool.{true, false, _&&_}
 use mathlib.Core.List.{List}
 use native.Mathlib.Omega.{arith}
 use lib.ListN.{length, getD, take, drop, length-append, length-drop}
-use lib.Seq.{take-at, drop-at}
+use lib.Seq.{take-at, drop-at, getD-drop}
+use borrow.Author.Tests.{eq-eqb}
 use Rattle.lists.specs.Bytes.{less, plainOf, AllBytes}
 use Rattle.lists.specs.Counts.{count}
 use Rattle.lists.proofs.Each.{each-at}
@@ -14,6 +15,7 @@ use Rattle.lists.proofs.Plain.{plain-length}
 use Rattle.answers.specs.Answers.{isAccepted}
 use Rattle.answers.specs.declared.settings.Options.{Options}
 use Rattle.answers.specs.declared.trust.Evidence.the-variants as evidence
+use Rattle.answers.specs.declared.trust.Source.the-variants as source
 use Rattle.sector.specs.Byte.{offsetOf, shiftedOf}
 use Rattle.sector.specs.Fit.{modalAt, fitOf, sectorOf}
 use Rattle.sector.specs.Scan.{blankFit}
@@ -23,6 +25,8 @@ use Rattle.page.specs.Trailer.{rowCount}
 use Rattle.page.specs.Integrity.{isUnallocated}
 use Rattle.summary.specs.Page.{sectorEnd, part, fitAt, fitsOf, bytesOf}
 use Rattle.summary.proofs.Sectors.{summary-length, summary-at}
+use Rattle.slots.specs.Slots.{rowCountMatches, pageMatches}
+use Rattle.slots.proofs.Pages.{matches-data}
 use Rattle.votes.specs.Votes.{candidateOf, assessmentOf}
 use Rattle.votes.specs.declared.Candidate.{Candidate}
 use Rattle.votes.specs.declared.Assessment.{Assessment}
@@ -32,6 +36,8 @@ use Rattle.groups.specs.declared.Group.the-variants.{Others}
 use Rattle.groups.specs.Groups.{group, mostOf}
 use Rattle.choice.specs.Rules.{choiceOf}
 use Rattle.choice.specs.Supplied.{suppliedOf}
+use Rattle.meanings.specs.Sources.{ByRowCount}
+use Rattle.meanings.proofs.Sources.{choice-means}
 use Rattle.meanings.proofs.Taken.{Chosen, chosen-stands}
 use Rattle.verdict.specs.declared.Decoding.{Decoding}
 use Rattle.verdict.specs.Sectors.{entry, refitOf}
@@ -179,12 +185,40 @@ module _
           ∙ sym (count-plain (d .choice .bv) (bytesOf number stored) small summarized)
           ∙ ap (count 0) (sym (taken-is number stored out (length out) (choiceOf lim number (bytesOf number stored) anchors n o) d w all used good))
 
+      abbrev written-page : List ℕ
+      written-page = leftIn out number stored d
+
+      page-is : written-page ≡ plainPage (d .choice .bv) (bytesOf number stored) stored
+      page-is = written-is number stored out (length out) (choiceOf lim number (bytesOf number stored) anchors n o) d w all used good
+
+      row-count-is : rowCount written-page ≡ n
+      row-count-is =
+          sym (getD-drop 4080 written-page 0 0) ∙ ap (λ (l : List ℕ). getD l 0 0) (read-recovered .trailer) ∙ getD-drop 4080 stored 0 0
+
+      -- the source says that the data written pass the test; the trailer behind them plays no part in it
+      written-passes : lim ≤ 4080 → d .choice .source ≡ source.TrailerRowCount → (0 < rowCount written-page) × (pageMatches lim written-page (o .«min_trailer_count») ≡ true)
+      unfolding pageMatches
+      written-passes l h =
+          let e : choiceOf lim number (bytesOf number stored) anchors n o .source ≡ source.TrailerRowCount = ap (λ (c : Choice). c .source) (sym ruled) ∙ h in
+          let said : ByRowCount lim number (bytesOf number stored) anchors n o (choiceOf lim number (bytesOf number stored) anchors n o) =
+          choice-means .said lim number (bytesOf number stored) anchors n o summarized .row-count e in
+          let data : List ℕ = plainOf (d .choice .bv) (bytesOf number stored) in
+          let long : length data ≡ 4080 = plain-length (d .choice .bv) (bytesOf number stored) ∙ w .lengths good .1 .1 in
+          let passes : rowCountMatches lim data n (o .«min_trailer_count») ≡ true =
+          ap (λ (x : ℕ). rowCountMatches lim (plainOf x (bytesOf number stored)) n (o .«min_trailer_count»)) bv-is ∙ said .sole .passes in
+          (omega (arith, row-count-is, said .sole .rows),
+          ap₂ _&&_ (eq-eqb (length written-page) 4096 (read-recovered .whole))
+          (ap₂ (λ (p : List ℕ) (k : ℕ). rowCountMatches lim p k (o .«min_trailer_count»)) page-is row-count-is
+          ∙ matches-data data (drop 4080 stored) lim n (o .«min_trailer_count») (omega arith)
+          ∙ passes))
+
       read-evident : Evident lim number stored anchors o d (leftIn out number stored d)
       unfolding candidateOf
       read-evident =
           record {
             choice = ruled;
             byte = small;
+            passes = λ l h. written-passes l h;
             mass =
                 ap (λ (c : Choice). lastOf (c .grounds)) ruled
                 ∙ ap lastOf (chosen .grounds)
@@ -201,6 +235,8 @@ recovers =
       );
       supplied =
           λ lim number bv stored o out all used good.
-          recovered number stored out (length out) (suppliedOf lim number bv (bytesOf number stored) (rowCount stored) o) (readWith lim number bv stored o (length out))
-          (supplied-whole lim number stored (fitsOf number stored) (bytesOf number stored) o (length out) bv) all used good;
+          let w = supplied-whole lim number stored (fitsOf number stored) (bytesOf number stored) o (length out) bv in
+          (recovered number stored out (length out) (suppliedOf lim number bv (bytesOf number stored) (rowCount stored) o) (readWith lim number bv stored o (length out)) w
+          all used good,
+          w .accepted used good .0);
     }

@@ -1,5 +1,5 @@
 -- DEMAND 1 for the functions of include/lumeviqo.h: each tells one of the answers in its layout, or returns 0 and does nothing where the buffer for the
--- answer is too short, or the fits are not 48 bytes. The answers are those of the entries, of which `Answered` has the lines. Assumes nothing.
+-- answer is too short, or what is lent as fits is none. The answers are those of the entries, of which `Answered` has the lines. Assumes nothing.
 use Prim.Native.Nat.{ℕ}
 use mathlib.Core.Path.{_≡_}
 use mathlib.Core.Bool.{Bool, true, false, _&&_}
@@ -26,7 +26,7 @@ use Rattle.layout.specs.Layouts.{integrityBytes, trailerSize, trailerBytes, sup
 use Rattle.row_layout.specs.RowLayouts.{parseSize, rowCountSize, rowSize, rowsSize}
 use Rattle.lumeviqo.specs.Calls.{hasRoom, ScanCall, ReplaceCall, DecodingCall, parseTold, rowCountTold, rowTold, rowsTold}
 
--- a layout of n bytes that starts with the answer x, in the buffer `answer`, and what is returned; `lent` says whether the fits are 48 bytes
+-- a layout of n bytes that starts with the answer x, in the buffer `answer`, and what is returned; `lent` says whether the fits are fits
 pub record ToldInC (lent : Bool) (n : ℕ) (x : Answer) (answer answerAtExit : List ℕ) (r : ℕ) : Type 0 where
   pub nothing : (hasRoom n answer && lent) ≡ false → (r ≡ 0) × (answerAtExit ≡ answer)
   pub all : (hasRoom n answer && lent) ≡ true → r ≡ n

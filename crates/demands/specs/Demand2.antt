@@ -13,6 +13,7 @@ use Rattle.answers.specs.Answers.{isAccepted}
 use Rattle.answers.specs.declared.settings.Options.{Options}
 use Rattle.answers.specs.declared.trust.Evidence.{Evidence}
 use Rattle.answers.specs.declared.trust.Evidence.the-variants as evidence
+use Rattle.answers.specs.declared.trust.Source.the-variants as source
 use Rattle.answers.specs.declared.trust.Grounds.{Grounds}
 use Rattle.sector.specs.Byte.{offsetOf}
 use Rattle.sector.specs.Fit.{shiftedList, modalAt}
@@ -21,11 +22,13 @@ use Rattle.sector.specs.declared.fits.Fit.{Fit}
 use Rattle.page.specs.Trailer.{rowCount}
 use Rattle.page.specs.Integrity.{isUnallocated}
 use Rattle.summary.specs.Page.{sectorEnd, part, fitsOf, bytesOf}
+use Rattle.slots.specs.Slots.{pageMatches}
 use Rattle.votes.specs.Votes.{assessmentOf}
 use Rattle.votes.specs.declared.Assessment.{Assessment}
 use Rattle.groups.specs.declared.Group.the-variants.{Others}
 use Rattle.groups.specs.Groups.{group, mostOf}
 use Rattle.choice.specs.Rules.{choiceOf}
+use Rattle.choice.specs.Supplied.{suppliedOf}
 use Rattle.verdict.specs.declared.Decoding.{Decoding}
 use Rattle.verdict.specs.Sectors.{entry}
 use Rattle.decode.specs.Decode.{decodingOf, suppliedDecodingOf, writtenOf}
@@ -67,11 +70,16 @@ pub record Recovered (number : ℕ) (stored : List ℕ) (d : Decoding) (written 
 abbrev pub lastOf : Grounds → Evidence
 lastOf g = getD (g .items) (g .len - 1) (record { evidence = evidence.Nothing }) .evidence
 
--- the choice is the rules', for the page's own shifted bytes; its last evidence is the number of data bytes written that are zero, with its
--- lead over the best of the other candidates
+-- the choice is the rules', for the page's own shifted bytes, so that it means what `meanings` says of it; a page whose bv comes from its row count passes
+-- the row-count test as it was written; the last evidence is the number of data bytes written that are zero, with its lead over the best of the other
+-- candidates
 pub record Evident (lim number : ℕ) (stored anchors : List ℕ) (o : Options) (d : Decoding) (written : List ℕ) : Type 0 where
   pub choice : d .choice ≡ choiceOf lim number (bytesOf number stored) anchors (rowCount stored) o
   pub byte : d .choice .bv < 256
+  pub passes :
+      lim ≤ 4080
+      → d .choice .source ≡ source.TrailerRowCount
+      → (0 < rowCount written) × (pageMatches lim written (o .«min_trailer_count») ≡ true)
   pub mass :
       let zeros : ℕ = count 0 (take 4080 written) in
       let a : Assessment = assessmentOf lim (bytesOf number stored) anchors (rowCount stored) (o .«min_trailer_count») in
@@ -91,4 +99,4 @@ pub record Recovers : Type 0 where
       → isUnallocated stored ≡ false
       → let d : Decoding = readWith lim number bv stored o (length out) in
       isAccepted (d .choice .answer) ≡ true
-      → Recovered number stored d (leftIn out number stored d)
+      → Recovered number stored d (leftIn out number stored d) × (d .choice ≡ suppliedOf lim number bv (bytesOf number stored) (rowCount stored) o)
