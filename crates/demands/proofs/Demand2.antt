@@ -202,15 +202,16 @@ module _
           let e : choiceOf lim number (bytesOf number stored) anchors n o .source ≡ source.TrailerRowCount = ap (λ (c : Choice). c .source) (sym ruled) ∙ h in
           let said : ByRowCount lim number (bytesOf number stored) anchors n o (choiceOf lim number (bytesOf number stored) anchors n o) =
           choice-means .said lim number (bytesOf number stored) anchors n o summarized .row-count e in
-          let data : List ℕ = plainOf (d .choice .bv) (bytesOf number stored) in
-          let long : length data ≡ 4080 = plain-length (d .choice .bv) (bytesOf number stored) ∙ w .lengths good .1 .1 in
-          let passes : rowCountMatches lim data n (o .«min_trailer_count») ≡ true =
-          ap (λ (x : ℕ). rowCountMatches lim (plainOf x (bytesOf number stored)) n (o .«min_trailer_count»)) bv-is ∙ said .sole .passes in
-          (omega (arith, row-count-is, said .sole .rows),
-          ap₂ _&&_ (eq-eqb (length written-page) 4096 (read-recovered .whole))
-          (ap₂ (λ (p : List ℕ) (k : ℕ). rowCountMatches lim p k (o .«min_trailer_count»)) page-is row-count-is
-          ∙ matches-data data (drop 4080 stored) lim n (o .«min_trailer_count») (omega arith)
-          ∙ passes))
+          let plain : List ℕ = plainOf (d .choice .bv) (bytesOf number stored) in
+          let long : length plain ≡ 4080 = plain-length (d .choice .bv) (bytesOf number stored) ∙ w .lengths good .1 .1 in
+          let passes : rowCountMatches lim plain n (o .«min_trailer_count») ≡ true =
+          ap (λ (x : ℕ). rowCountMatches lim (plainOf x (bytesOf number stored)) n (o .«min_trailer_count»)) bv-is ∙ said .sole .passes in (
+            omega (arith, row-count-is, said .sole .rows),
+            ap₂ _&&_ (eq-eqb (length written-page) 4096 (read-recovered .whole))
+                (ap₂ (λ (p : List ℕ) (k : ℕ). rowCountMatches lim p k (o .«min_trailer_count»)) page-is row-count-is
+                ∙ matches-data plain (drop 4080 stored) lim n (o .«min_trailer_count») (omega arith)
+                ∙ passes),
+          )
 
       read-evident : Evident lim number stored anchors o d (leftIn out number stored d)
       unfolding candidateOf
@@ -235,8 +236,9 @@ recovers =
       );
       supplied =
           λ lim number bv stored o out all used good.
-          let w = supplied-whole lim number stored (fitsOf number stored) (bytesOf number stored) o (length out) bv in
-          (recovered number stored out (length out) (suppliedOf lim number bv (bytesOf number stored) (rowCount stored) o) (readWith lim number bv stored o (length out)) w
-          all used good,
-          w .accepted used good .0);
+          let w = supplied-whole lim number stored (fitsOf number stored) (bytesOf number stored) o (length out) bv in (
+            recovered number stored out (length out) (suppliedOf lim number bv (bytesOf number stored) (rowCount stored) o) (readWith lim number bv stored o (length out)) w
+                all used good,
+            w .accepted used good .0,
+          );
     }

@@ -21,7 +21,7 @@ use Rattle.page.specs.Superblock.{blankSuperblock, superblockAnswer, checkedSup
 use Rattle.summary.specs.Page.{blankFits, pageScanOf, scanned}
 use Rattle.summary.specs.Replace.{replaced, storedAfter, shiftedAfter}
 use Rattle.slotted.specs.Parses as slotted
-use Rattle.slotted.specs.declared.directories.Declared.the-variants.{Scanned}
+use Rattle.slotted.specs.declared.verdicts.Declared.the-variants.{Scanned}
 use Rattle.slotted.specs.declared.directories.Parsed.{Parsed}
 use Rattle.rows.specs.Rows.{IsPart}
 use Rattle.rows.specs.RowAnswers.{rowOf, rowAnswerOf, rowsCountedOf, startsBy, startsOf}

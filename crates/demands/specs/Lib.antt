@@ -9,3 +9,4 @@ pub mod Demand3
 pub mod Accepted
 pub mod Anchors
 pub mod SingleOutcome
+pub mod Warned
