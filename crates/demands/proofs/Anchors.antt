@@ -17,7 +17,7 @@ use Rattle.choice.specs.Rules.{choiceOf}
 use Rattle.meanings.specs.Values.{standsFor}
 use Rattle.verdict.specs.Verdict.{verdictBy, verdictOf}
 use Rattle.decode.specs.Decode.{decodingOf}
-use Rattle.demands.specs.Anchors.{SameMembers, SameCandidates, AnchorsAreASet}
+use Rattle.demands.specs.Anchors.{SameCandidates, AnchorsAreASet}
 
 -- a value is in two lists one after the other if it is in one of them
 in-append : (v : ℕ) (a b : List ℕ) → isIn v (a ++ b) ≡ (isIn v a || isIn v b)

@@ -7,7 +7,6 @@ use native.Mathlib.Omega.{arith}
 use lib.ListN.{length, take, drop, length-drop}
 use lib.Seq.{length-take-le}
 use Rattle.lists.specs.Cases.{pick}
-use Rattle.lists.specs.Pieces.{over}
 use Rattle.lists.proofs.Over.{over-here, over-after}
 use Rattle.lists.proofs.Picks.{pick-case}
 use Rattle.numbers.specs.Numbers.{bigBytes}

@@ -5,7 +5,7 @@ use mathlib.Core.List.{List}
 use denote.Ref.{RefT}
 use Rattle.rows.specs.Rows.{IsPart}
 use Rattle.rows.specs.declared.spans.Span.{Span}
-use Rattle.demands.specs.SingleOutcome.{Single, SamePart, SingleOutcome}
+use Rattle.demands.specs.SingleOutcome.{SamePart, SingleOutcome}
 
 -- two that are equal to a third
 both : {A : Type 0} {x y z : A} → x ≡ z → y ≡ z → x ≡ y

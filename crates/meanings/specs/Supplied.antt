@@ -75,9 +75,18 @@ module _ (lim number bv : ℕ) (shifted : List ℕ) (n : ℕ) (o : Options) (s :
   -- one of these
   pub data SuppliedMeaning : Type 0 where
     verified : length shifted ≡ 4080 → passes lim bv shifted n t ≡ true → TakenAs confidence.Verified warning.Nothing → SuppliedMeaning
-    calibrated : length shifted ≡ 4080 → passes lim bv shifted n t ≡ false → Calibrates shifted bv → TakenAs confidence.Calibrated warning.Nothing → SuppliedMeaning
+    calibrated :
+        length shifted ≡ 4080
+        → passes lim bv shifted n t ≡ false
+        → Calibrates shifted bv
+        → TakenAs confidence.Calibrated warning.Nothing
+        → SuppliedMeaning
     unverified :
-        length shifted ≡ 4080 → Unbacked lim bv shifted n t → keystream o ≡ true → TakenAs confidence.Unverified (warning.UnverifiedKeystream bv) → SuppliedMeaning
+        length shifted ≡ 4080
+        → Unbacked lim bv shifted n t
+        → keystream o ≡ true
+        → TakenAs confidence.Unverified (warning.UnverifiedKeystream bv)
+        → SuppliedMeaning
     refused : length shifted ≡ 4080 → Unbacked lim bv shifted n t → keystream o ≡ false → RefusedAs (answer.KeystreamUnverified number bv) → SuppliedMeaning
     wrong-length : (length shifted ≡ 4080 → ⊥) → RefusedAs (answer.WrongBufferLength (length shifted)) → SuppliedMeaning
 

@@ -16,7 +16,12 @@ use Rattle.parts.specs.Parts.{fitSize, fitsSize}
 -- the fit at a place
 unfoldable pub fitIn : List ℕ → ℕ → Fit
 fitIn b at =
-    record { step = byteAt b at; peak = twoBytes (byteAt b (at + 1)) (byteAt b (at + 2)); «runner_up» = twoBytes (byteAt b (at + 3)) (byteAt b (at + 4)); exact = not (eqb (byteAt b (at + 5)) 0) }
+    record {
+      step = byteAt b at;
+      peak = twoBytes (byteAt b (at + 1)) (byteAt b (at + 2));
+      «runner_up» = twoBytes (byteAt b (at + 3)) (byteAt b (at + 4));
+      exact = not (eqb (byteAt b (at + 5)) 0);
+    }
 
 abbrev pub blankFits : List Fit
 blankFits = replicate 8 blankFit
