@@ -60,7 +60,7 @@ pub record Keyed (number : ℕ) (stored : List ℕ) (bv : ℕ) : Type 0 where
 -- ---- the theorems; `out` has 4,096 bytes
 
 pub record Accepts : Type 0 where
-  -- the scan finds what such a page was written with
+  -- the scan finds the bv that such a page was written with
   pub keyed : (number : ℕ) (stored : List ℕ) (bv : ℕ) → length stored ≡ 4096 → Keyed number stored bv → OneValue number stored bv
   -- eight exact sectors with one value, and row count 0: calibrated, whatever the anchors and the options
   pub exact :
