@@ -12,10 +12,10 @@ use Rattle.lists.proofs.Least.{Leader, leader-none, leader-up, leader-stay, lea
 use Rattle.sector.specs.Fit.{topPlace, butAt, second}
 
 -- the numbers at all places but one
-but-here : (f : ℕ → ℕ) (place : ℕ) → butAt f place place ≡ 0
+pub but-here : (f : ℕ → ℕ) (place : ℕ) → butAt f place place ≡ 0
 but-here f place = ap (λ (b : Bool). pick b 0 (f place)) (eq-eqb place place refl)
 
-but-there : (f : ℕ → ℕ) (place k : ℕ) → (k ≡ place → ⊥) → butAt f place k ≡ f k
+pub but-there : (f : ℕ → ℕ) (place k : ℕ) → (k ≡ place → ⊥) → butAt f place k ≡ f k
 but-there f place k ne = ap (λ (b : Bool). pick b 0 (f k)) (ne-eqb k place ne)
 
 -- a leader stands among the numbers that were seen, if any were

@@ -4,6 +4,7 @@ pub mod Bytes
 pub mod Shifts
 pub mod Leads
 pub mod Sorted
+pub mod Ties
 pub mod Exact
 pub mod StepSearch
 pub mod Scans

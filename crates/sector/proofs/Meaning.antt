@@ -4,15 +4,17 @@ use mathlib.Core.Path.{_≡_, refl}
 use mathlib.Core.Bool.{Bool, true, false}
 use mathlib.Core.List.{List, [], _∷_, map}
 use native.Mathlib.Omega.{arith}
+use lib.Dec.{eqb}
 use lib.ListN.{getD}
-use Rattle.lists.specs.Counts.{allSame}
+use Rattle.lists.specs.Counts.{howMany, allSame}
 use Rattle.lists.specs.Pieces.{each}
 use Rattle.lists.proofs.Greatest.{greatest-above}
 use Rattle.sector.specs.Byte.{offsetOf, shiftedOf}
-use Rattle.sector.specs.Fit.{modalAt, fitOf, sectorOf, confidentOf}
+use Rattle.sector.specs.Fit.{modalAt, ties, fitOf, sectorOf, confidentOf}
 use Rattle.sector.specs.declared.fits.Fit.{Fit}
 use Rattle.sector.specs.Sorted.{sortedDown}
 use Rattle.sector.proofs.Sorted.{sorted-first, sorted-next, top-within, top-here, top-first}
+use Rattle.sector.proofs.Ties.{ties-some, ties-le, ties-second, second-ties}
 
 -- THE FIT of a sector of any length: its step is a byte, and has the peak as its count; no step has a greater count, and every smaller step
 -- a lesser one; of the 256 counts sorted, the peak is the first and the runner-up the second; it is exact where all its shifted bytes are equal
@@ -41,6 +43,23 @@ module _ (o : ℕ) (l : List ℕ) where
   unfolding fitOf
   fit-runner = sorted-next (modalAt o l) 256 (omega arith)
 
+  -- TIES: how many of the 256 steps have the peak as their count. From 1 to 256, and above 1 exactly where the runner-up equals the peak
+  pub fit-tied : fitOf o l .tied ≡ howMany (λ k. eqb (modalAt o l k) (fitOf o l .peak)) 256
+  unfolding fitOf ties
+  fit-tied = refl
+
+  pub tied-range : (1 ≤ fitOf o l .tied) × (fitOf o l .tied ≤ 256)
+  unfolding fitOf
+  tied-range = (ties-some (modalAt o l) 256 (omega arith), ties-le (modalAt o l) 256)
+
+  pub tied-above : 1 < fitOf o l .tied → fitOf o l .«runner_up» ≡ fitOf o l .peak
+  unfolding fitOf
+  tied-above h = ties-second (modalAt o l) 256 (omega arith) h
+
+  pub above-tied : fitOf o l .«runner_up» ≡ fitOf o l .peak → 1 < fitOf o l .tied
+  unfolding fitOf
+  above-tied e = second-ties (modalAt o l) 256 (omega arith) e
+
   pub fit-exact : fitOf o l .exact ≡ allSame (sectorOf o l)
   unfolding fitOf sectorOf
   fit-exact = refl
@@ -62,7 +81,7 @@ unfoldable pub confidences : List (ℕ × ℕ × Bool)
 confidences = (24, 12, true) ∷ (24, 13, false) ∷ (23, 0, false) ∷ (65535, 65535, false) ∷ []
 
 abbrev inexact : ℕ → ℕ → Fit
-inexact peak runner = record { step = 0; peak = peak; «runner_up» = runner; exact = false }
+inexact peak runner = record { step = 0; peak = peak; «runner_up» = runner; exact = false; tied = 1 }
 
 pub confidences-hold : map (λ (e : ℕ × ℕ × Bool). confidentOf (inexact (e .0) (e .1))) confidences ≡ map (λ (e : ℕ × ℕ × Bool). e .2) confidences
 unfolding confidences

@@ -3,8 +3,9 @@ use Prim.Native.Nat.{ℕ, suc, _+_}
 use mathlib.Core.Bool.{Bool, true, false}
 use mathlib.Core.List.{List, [], _∷_}
 use lib.Dec.{eqb, leb}
+use lib.ListN.{getD}
 use Rattle.lists.specs.Cases.{pick}
-use Rattle.lists.specs.Counts.{count, greatest, least, allSame}
+use Rattle.lists.specs.Counts.{count, greatest, howMany, least, allSame}
 use Rattle.sector.specs.Byte.{shiftedOf}
 use Rattle.sector.specs.declared.fits.Fit.{Fit}
 
@@ -34,7 +35,11 @@ butAt f place k = pick (eqb k place) 0 (f k)
 unfoldable pub second : (ℕ → ℕ) → ℕ → ℕ
 second f n = greatest (butAt f (topPlace f n)) n
 
--- of the modal counts of the 256 steps: the greatest, the smallest step that has it, the second greatest
+-- how many of them are the greatest
+unfoldable pub ties : (ℕ → ℕ) → ℕ → ℕ
+ties f n = howMany (λ k. eqb (f k) (greatest f n)) n
+
+-- of the modal counts of the 256 steps: the greatest, the smallest step that has it, the second greatest, and how many steps have the greatest
 abbrev pub peakOf : (ℕ → ℕ) → ℕ
 peakOf f = greatest f 256
 
@@ -44,11 +49,24 @@ stepOf f = topPlace f 256
 abbrev pub runnerOf : (ℕ → ℕ) → ℕ
 runnerOf f = second f 256
 
+abbrev pub tiedOf : (ℕ → ℕ) → ℕ
+tiedOf f = ties f 256
+
+-- these four, and whether all agree
+abbrev pub fitFrom : (ℕ → ℕ) → Bool → Fit
+fitFrom f exact = record { step = stepOf f; peak = peakOf f; «runner_up» = runnerOf f; exact = exact; tied = tiedOf f }
+
 -- the fit of a sector; exact: all its shifted bytes are equal
 unfoldable pub fitOf : ℕ → List ℕ → Fit
 fitOf offset bytes =
     let f : ℕ → ℕ = modalAt offset bytes in
-    record { step = stepOf f; peak = peakOf f; «runner_up» = runnerOf f; exact = allSame (shiftedList offset (stepOf f) bytes) }
+    fitFrom f (allSame (shiftedList offset (stepOf f) bytes))
+
+-- the fit that a table of modal counts gives, of a sector of n bytes: exact where n of them agree
+unfoldable pub tableFit : List ℕ → ℕ → Fit
+tableFit counts n =
+    let f : ℕ → ℕ = λ k. getD counts k 0 in
+    fitFrom f (eqb (peakOf f) n)
 
 -- the shifted bytes of a sector, under the step of its fit
 unfoldable pub sectorOf : ℕ → List ℕ → List ℕ

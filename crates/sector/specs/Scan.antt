@@ -3,13 +3,16 @@ use Prim.Native.Nat.{ℕ}
 use mathlib.Core.Bool.{false}
 use mathlib.Core.List.{List}
 use lib.Dec.{eqb, leb}
-use lib.ListN.{length}
+use lib.ListN.{length, replicate}
 use Rattle.lists.specs.Cases.{pick}
 use Rattle.sector.specs.Fit.{fitOf, sectorOf}
 use Rattle.sector.specs.declared.fits.Fit.{Fit}
 
 abbrev pub blankFit : Fit
-blankFit = record { step = 0; peak = 0; «runner_up» = 0; exact = false }
+blankFit = record { step = 0; peak = 0; «runner_up» = 0; exact = false; tied = 0 }
+
+abbrev pub blankFits : List Fit
+blankFits = replicate 8 blankFit
 
 -- x for a sector and a buffer that go together, else y
 abbrev pub ifScanned : {A : Type 0} → ℕ → ℕ → A → A → A

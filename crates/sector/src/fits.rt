@@ -1,14 +1,16 @@
 // The fit of a sector.
 ghost use mathlib.Core.Path.{_≡_};
 ghost use Rattle.sector.specs.Fit.{confidentOf};
-ghost use Rattle.sector.specs.Scan.{blankFit};
+ghost use Rattle.sector.specs.Scan.{blankFit, blankFits};
 
-// The step of a sector, the bytes that agree under it, the bytes that agree under the next best, and whether all agree.
+// The step of a sector, the bytes that agree under it, the bytes that agree under the next best, whether all agree, and how many of the
+// 256 steps do as well.
 pub struct Fit {
     pub step: u8,
     pub peak: u16,
     pub runner_up: u16,
     pub exact: bool,
+    pub tied: u16,
 }
 
 impl Fit {
@@ -27,7 +29,16 @@ impl Fit {
             peak: 0,
             runner_up: 0,
             exact: false,
+            tied: 0,
         }
+    }
+
+    // And of a page that was not scanned.
+    pub fn blanks() -> [Self; 8]
+        ensures { λ r. ⌜ r ≡ blankFits ⌝ }
+    {
+        let blank = Fit::blank();
+        [blank; 8]
     }
 
     // The step is beyond doubt. Of what no scan gives, too: the sum cannot wrap.

@@ -6,6 +6,7 @@ mod arith;
 mod fits;
 mod same;
 mod scan;
+mod search;
 
 pub use arith::ap_offset;
 pub use arith::shifted;
@@ -13,3 +14,4 @@ pub use arith::wrapping_mul_u8;
 pub use fits::Fit;
 pub use same::all_same;
 pub use scan::scan_sector;
+pub use search::table_fit;

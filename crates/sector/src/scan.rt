@@ -3,10 +3,12 @@ ghost use mathlib.Core.Path.{_≡_};
 ghost use Prim.Native.Nat.{_<_, _≤_};
 ghost use lib.ListN.{length, getD};
 ghost use Rattle.lists.specs.Counts.{greatest, Tallies};
+ghost use Rattle.lists.specs.Pieces.{each};
 ghost use Rattle.sector.specs.Fit.{shiftedList, modalAt, fitOf};
 ghost use Rattle.sector.specs.Scan.{sectorFit, sectorOut};
 use crate::arith::shifted;
 use crate::fits::Fit;
+use crate::search::table_fit;
 use numbers::wide;
 
 // The fit of a sector of at most 512 bytes; its shifted bytes go into `out`, which has its length. Else a blank, and `out` stays.
@@ -26,34 +28,26 @@ pub fn scan_sector(stored: &[u8], offset: u8, out: &mut [u8]) -> Fit
     fit
 }
 
-// `room` takes the shifted bytes of one step after the other.
 fn fit_of(stored: &[u8], offset: u8, room: &mut [u8]) -> Fit
     requires { ⌜ (length (now stored) ≤ 512) × (length (now room) ≡ length (now stored)) ⌝ }
     ensures { λ r. ⌜ r ≡ fitOf offset (now (stored .entry)) ⌝ }
 {
-    let mut best_step: u8 = 0;
-    let mut best: u16 = 0;
-    let mut runner_up: u16 = 0;
-    let mut step: u16 = 0;
+    let counts = modal_counts(stored, offset, room);
+    table_fit(counts, stored.len())
+}
+
+// The modal counts of the 256 steps. `room` takes the shifted bytes of one step after the other.
+fn modal_counts(stored: &[u8], offset: u8, room: &mut [u8]) -> [u16; 256]
+    requires { ⌜ (length (now stored) ≤ 512) × (length (now room) ≡ length (now stored)) ⌝ }
+    ensures { λ r. ⌜ r ≡ each (modalAt offset (now (stored .entry))) 256 ⌝ }
+{
+    let mut counts = [0u16; 256];
+    let mut step: usize = 0;
     while step < 256 {
-        let k = step as u8;
-        let peak = modal_count(stored, offset, k, room);
-        if peak > best {
-            runner_up = best;
-            best = peak;
-            best_step = k;
-        } else if peak > runner_up {
-            runner_up = peak;
-        }
+        counts[step] = modal_count(stored, offset, step as u8, room);
         step += 1;
     }
-    let exact = best as usize == stored.len();
-    Fit {
-        step: best_step,
-        peak: best,
-        runner_up,
-        exact,
-    }
+    counts
 }
 
 // Counted first and compared after: the two loops are faster than one that keeps the greatest count.
