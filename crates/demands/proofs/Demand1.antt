@@ -25,7 +25,8 @@ use Rattle.page.specs.Integrity.{isUnallocated, computedCrc, trailerHolds, writ
 use Rattle.page.specs.Superblock.{magicOf, blankSuperblock, superblockAnswer, checkedSuperblock}
 use Rattle.page.specs.declared.trailers.TrailerAnswer.{TrailerAnswer}
 use Rattle.page.specs.declared.superblocks.SuperblockAnswer.{SuperblockAnswer}
-use Rattle.summary.specs.Page.{sectorEnd, blankFits, checked, pageScanOf, scanned}
+use Rattle.sector.specs.Scan.{blankFits}
+use Rattle.summary.specs.Page.{sectorEnd, checked, pageScanOf, scanned}
 use Rattle.summary.specs.Replace.{replaced, storedAfter, shiftedAfter}
 use Rattle.slotted.specs.Decisions.{answerOf, decisionOf}
 use Rattle.slotted.specs.Parses.{parsedOf}

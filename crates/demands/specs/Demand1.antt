@@ -18,7 +18,8 @@ use Rattle.sector.specs.declared.fits.Fit.{Fit}
 use Rattle.page.specs.Trailer.{blankTrailer, trailerAnswer}
 use Rattle.page.specs.Integrity.{writtenIntegrity, integrityOf}
 use Rattle.page.specs.Superblock.{blankSuperblock, superblockAnswer, checkedSuperblock}
-use Rattle.summary.specs.Page.{blankFits, pageScanOf, scanned}
+use Rattle.sector.specs.Scan.{blankFits}
+use Rattle.summary.specs.Page.{pageScanOf, scanned}
 use Rattle.summary.specs.Replace.{replaced, storedAfter, shiftedAfter}
 use Rattle.slotted.specs.Parses as slotted
 use Rattle.slotted.specs.declared.verdicts.Declared.the-variants.{Scanned}

@@ -10,7 +10,8 @@ use Rattle.answers.specs.declared.kinds.Answer.the-variants.{Accepted, WrongPag
 use Rattle.sector.specs.Byte.{offsetOf}
 use Rattle.sector.specs.Fit.{fitOf, sectorOf}
 use Rattle.sector.specs.declared.fits.Fit.{Fit}
-use Rattle.summary.specs.Page.{sectorEnd, fitsOf, bytesOf, blankFits, checked, ifAccepted, pageScanOf, scanned}
+use Rattle.sector.specs.Scan.{blankFits}
+use Rattle.summary.specs.Page.{sectorEnd, fitsOf, bytesOf, checked, ifAccepted, pageScanOf, scanned}
 use Rattle.summary.specs.Replace.{replaceAnswer, replaced, storedAfter, shiftedAfter}
 use Rattle.summary.specs.declared.pages.PageScan.{PageScan}
 use Rattle.summary.specs.declared.replacing.Changed.{Changed}

@@ -2,7 +2,7 @@
 use Prim.Native.Nat.{ℕ, _+_, _-_, _*_, min}
 use mathlib.Core.List.{List}
 use lib.Dec.{eqb}
-use lib.ListN.{length, take, drop, replicate}
+use lib.ListN.{length, take, drop}
 use Rattle.lists.specs.Cases.{pick}
 use Rattle.lists.specs.Pieces.{each, joined}
 use Rattle.answers.specs.Answers.{isAccepted}
@@ -10,7 +10,7 @@ use Rattle.answers.specs.declared.kinds.Answer.{Answer}
 use Rattle.answers.specs.declared.kinds.Answer.the-variants.{Accepted, WrongPageLength, WrongBufferLength}
 use Rattle.sector.specs.Byte.{offsetOf}
 use Rattle.sector.specs.Fit.{fitOf, sectorOf}
-use Rattle.sector.specs.Scan.{blankFit}
+use Rattle.sector.specs.Scan.{blankFits}
 use Rattle.sector.specs.declared.fits.Fit.{Fit}
 use Rattle.summary.specs.declared.pages.PageScan.{PageScan}
 
@@ -34,10 +34,6 @@ fitsOf number stored = each (fitAt number stored) 8
 
 abbrev pub bytesOf : ℕ → List ℕ → List ℕ
 bytesOf number stored = joined (bytesAt number stored) 8
-
--- the fits of a refused scan
-abbrev pub blankFits : List Fit
-blankFits = replicate 8 blankFit
 
 -- checks 1 and 2, for a page of n bytes and a buffer of m; where both pass, the answer a
 abbrev pub checked : ℕ → ℕ → Answer → Answer

@@ -6,7 +6,6 @@ mod replacing;
 mod rescan;
 
 pub use pages::PageScan;
-pub use pages::blank_fits;
 pub use pages::scan_page;
 pub use pages::sector_end;
 pub use replacing::Changed;

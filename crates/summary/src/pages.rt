@@ -1,7 +1,7 @@
 // The scan of a page.
 ghost use mathlib.Core.Path.{_≡_};
 ghost use lib.ListN.{length};
-ghost use Rattle.summary.specs.Page.{sectorEnd, blankFits, pageScanOf, scanned};
+ghost use Rattle.summary.specs.Page.{sectorEnd, pageScanOf, scanned};
 use answers::Answer;
 use sector::Fit;
 
@@ -16,7 +16,7 @@ pub fn scan_page(number: u64, stored: &[u8], shifted: &mut [u8]) -> PageScan
     ensures { λ r. ⌜ r ≡ pageScanOf number (now (stored .entry)) (length (now (shifted .entry))) ⌝ }
     ensures { λ r. ⌜ now (shifted .exit) ≡ scanned number (now (stored .entry)) (now (shifted .entry)) ⌝ }
 {
-    let blank = blank_fits();
+    let blank = Fit::blanks();
     let n = stored.len();
     if n != 4096 {
         return PageScan {
@@ -43,12 +43,4 @@ pub fn sector_end(s: usize) -> usize
     ensures { λ r. ⌜ r ≡ sectorEnd s ⌝ }
 {
     if s < 7 { s * 512 + 512 } else { 4080 }
-}
-
-// What stands where no sector was scanned.
-pub fn blank_fits() -> [Fit; 8]
-    ensures { λ r. ⌜ r ≡ blankFits ⌝ }
-{
-    let blank = Fit::blank();
-    [blank; 8]
 }

@@ -17,17 +17,23 @@ use Rattle.answers.specs.declared.notices.Warnings.{Warnings}
 abbrev pub entry : List Fit → ℕ → Fit
 entry fits s = getD fits s blankFit
 
--- "exactness and votes from the shifted bytes, steps, peaks and runner-ups from the fits"
+-- "exactness and votes from the shifted bytes, steps, peaks and runner-ups from the fits", and as runner-ups so ties
 abbrev pub refitAt : List Fit → List ℕ → ℕ → Fit
 refitAt fits shifted s =
-    record { step = entry fits s .step; peak = entry fits s .peak; «runner_up» = entry fits s .«runner_up»; exact = allSame (part s shifted) }
+    record {
+      step = entry fits s .step;
+      peak = entry fits s .peak;
+      «runner_up» = entry fits s .«runner_up»;
+      exact = allSame (part s shifted);
+      tied = entry fits s .tied;
+    }
 
 unfoldable pub refitOf : List Fit → List ℕ → List Fit
 refitOf fits shifted = each (refitAt fits shifted) 8
 
--- "eight fits of 0, 0, 0, exact"
+-- "eight fits of 0, 0, 0, exact", and no ties
 abbrev pub unallocatedFits : List Fit
-unallocatedFits = replicate 8 (record { step = 0; peak = 0; «runner_up» = 0; exact = true })
+unallocatedFits = replicate 8 (record { step = 0; peak = 0; «runner_up» = 0; exact = true; tied = 0 })
 
 -- "first such sector": the first that is not confident; 8 where every one is
 unfoldable pub firstWeak : List Fit → ℕ

@@ -21,7 +21,7 @@ use Rattle.answers.specs.declared.settings.Options.{Options}
 use Rattle.sector.specs.declared.fits.Fit.{Fit}
 use Rattle.page.specs.Trailer.{rowCount}
 use Rattle.page.specs.Integrity.{integrityOf}
-use Rattle.summary.specs.Page.{blankFits}
+use Rattle.sector.specs.Scan.{blankFits}
 use Rattle.choice.specs.declared.Choice.{Choice}
 use Rattle.choice.specs.Rules.{refusedOf, choiceOf}
 use Rattle.choice.specs.Supplied.{suppliedOf}

@@ -24,7 +24,7 @@ pub fn refused(answer: Answer) -> Decoding
 pub(crate) fn refused_with(choice: Choice) -> Decoding
     ensures { λ r. ⌜ r ≡ refusedWith choice ⌝ }
 {
-    let fits = summary::blank_fits();
+    let fits = Fit::blanks();
     let warnings = Warnings::none();
     Decoding {
         choice,
@@ -64,6 +64,7 @@ fn unallocated_fits() -> [Fit; 8]
         peak: 0,
         runner_up: 0,
         exact: true,
+        tied: 0,
     };
     [fit; 8]
 }

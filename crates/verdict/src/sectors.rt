@@ -84,7 +84,7 @@ fn refit(fits: [Fit; 8], shifted: &[u8]) -> [Fit; 8]
     requires { ⌜ length (now shifted) ≡ 4080 ⌝ }
     ensures { λ r. ⌜ r ≡ refitOf fits (now (shifted .entry)) ⌝ }
 {
-    let mut made = summary::blank_fits();
+    let mut made = Fit::blanks();
     let mut s: usize = 0;
     while s < 8 {
         let a = s * 512;
@@ -96,6 +96,7 @@ fn refit(fits: [Fit; 8], shifted: &[u8]) -> [Fit; 8]
             peak: kept.peak,
             runner_up: kept.runner_up,
             exact,
+            tied: kept.tied,
         };
         s += 1;
     }

@@ -17,7 +17,7 @@ returns c =
     let n = length (now (a .stored)) in
     let m = length (now (a .shifted)) in
     let w = scan-page n m (c .if1 .taken) in (
-      ap (λ (fs : List Fit). record { answer = WrongPageLength n; fits = fs }) (c .before .blank-fits .ensures)
+      ap (λ (fs : List Fit). record { answer = WrongPageLength n; fits = fs }) (c .before .blanks .ensures)
           ∙ scan-answer (a .number) (now (a .stored)) (now (a .shifted)) (WrongPageLength n) w,
       scan-buffer (a .number) (now (a .stored)) (now (a .shifted)) (WrongPageLength n) w,
     )
@@ -28,7 +28,7 @@ returns-2 c =
     let n = length (now (a .stored)) in
     let m = length (now (a .shifted)) in
     let w = scan-room n m (c .before .if1 .left) (c .if2 .taken) in (
-      ap (λ (fs : List Fit). record { answer = WrongBufferLength m; fits = fs }) (c .before .before .blank-fits .ensures)
+      ap (λ (fs : List Fit). record { answer = WrongBufferLength m; fits = fs }) (c .before .before .blanks .ensures)
           ∙ scan-answer (a .number) (now (a .stored)) (now (a .shifted)) (WrongBufferLength m) w,
       scan-buffer (a .number) (now (a .stored)) (now (a .shifted)) (WrongBufferLength m) w,
     )
@@ -40,7 +40,7 @@ returns-3 c =
     let e : length (now (a .stored)) ≡ 4096 = b .before .if1 .left in
     let d : length (now (a .shifted)) ≡ 4080 = b .if2 .left in
     let w = scan-good (length (now (a .stored))) (length (now (a .shifted))) e d in
-    let blank = b .before .before .blank-fits in
+    let blank = b .before .before .blanks in
     let scan = c .before .before .rescan in (
       ap (λ (fs : List Fit). record { answer = Accepted; fits = fs })
           (scan .ensures .0 ∙ refitted-all (a .number) (now (a .stored)) (blank .result) (ap length (blank .ensures)))

@@ -22,7 +22,7 @@ abbrev μ-loop : tie.MeasureT-loop
 μ-loop shifted fits made₀ s₀ made s = 8 - s
 
 loop-holds : tie.Need-loop-holds Inv-loop μ-loop
-loop-holds c = ((search needs), ap length (c .blank-fits .ensures), sym (each-none _))
+loop-holds c = ((search needs), ap length (c .blanks .ensures), sym (each-none _))
 
 loop-again : tie.Need-loop-again Inv-loop μ-loop
 loop-again c = let d = c .before .before .before in
@@ -30,7 +30,7 @@ loop-again c = let d = c .before .before .before in
     let l = d .before .before .loop in
     let s = l .s in
     let x = exact-here (now (a .shifted)) s (d .sector-end .result) (c .all-same .result) (d .sector-end .ensures) (c .all-same .ensures) in
-    let f : Fit = record { step = entry (a .t1) s .step; peak = entry (a .t1) s .peak; «runner_up» = entry (a .t1) s .«runner_up»; exact = c .all-same .result } in
+    let f : Fit = record { step = entry (a .t1) s .step; peak = entry (a .t1) s .peak; «runner_up» = entry (a .t1) s .«runner_up»; exact = c .all-same .result; tied = entry (a .t1) s .tied } in
     let e : f ≡ refitAt (a .t1) (now (a .shifted)) s = rw (sym x) in (
       omega arith,
       length-set (l .made) s f ∙ l .inv .1,
