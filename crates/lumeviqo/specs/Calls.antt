@@ -46,7 +46,7 @@ abbrev pub decoded : ℕ → List ℕ → List ℕ → ℕ → ℕ → ℕ → D
 decoded number stored anchors leniency t room =
     decodingOf searchLimit number stored (fitsOf number stored) (bytesOf number stored) anchors (optionsOf leniency t) room
 
--- from a summary: 48 bytes of fits, and shifted bytes
+-- from a summary: 64 bytes of fits, and shifted bytes
 abbrev pub decodedFrom : ℕ → List ℕ → List ℕ → List ℕ → List ℕ → ℕ → ℕ → ℕ → Decoding
 decodedFrom number stored fits shifted anchors leniency t room =
     decodingOf searchLimit number stored (fitsIn fits) shifted anchors (optionsOf leniency t) room

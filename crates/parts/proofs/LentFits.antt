@@ -48,8 +48,8 @@ module _ (b : List ℕ) where
         rw (eq-eqb (length b) fitsSize n, eq-eqb (howMany (isNoMark b) 8) 0 (ap (howMany (isNoMark b)) z ∙ m .others)) refl
 
 -- a fit that was lent is told as it was lent, byte for byte
-six : {a b c d e f a' b' c' d' e' f' : ℕ} → a ≡ a' → b ≡ b' → c ≡ c' → d ≡ d' → e ≡ e' → f ≡ f' → a ∷ b ∷ c ∷ d ∷ e ∷ f ∷ [] ≡ a' ∷ b' ∷ c' ∷ d' ∷ e' ∷ f' ∷ []
-six p q r s t u = λ i. p i ∷ q i ∷ r i ∷ s i ∷ t i ∷ u i ∷ []
+four : {a b c d a' b' c' d' : ℕ} {l l' : List ℕ} → a ≡ a' → b ≡ b' → c ≡ c' → d ≡ d' → l ≡ l' → a ∷ b ∷ c ∷ d ∷ l ≡ a' ∷ b' ∷ c' ∷ d' ∷ l'
+four p q r s t = λ i. p i ∷ q i ∷ r i ∷ s i ∷ t i
 
 mark-back : (m : ℕ) → m ≤ 1 → flag (not (eqb m 0)) % 256 ≡ m
 mark-back zero h = refl
@@ -61,13 +61,17 @@ pub fit-back :
     → ((i : ℕ) → byteAt b i < 256)
     → byteAt b (at + 5) ≤ 1
     → layoutBytes (fitFields (fitIn b at))
-    ≡ byteAt b at ∷ byteAt b (at + 1) ∷ byteAt b (at + 2) ∷ byteAt b (at + 3) ∷ byteAt b (at + 4) ∷ byteAt b (at + 5) ∷ []
+    ≡ byteAt b at ∷ byteAt b (at + 1) ∷ byteAt b (at + 2) ∷ byteAt b (at + 3) ∷ byteAt b (at + 4) ∷ byteAt b (at + 5) ∷ byteAt b (at + 6) ∷ byteAt b (at + 7) ∷ []
 unfolding layoutBytes fieldBytes fitFields fitIn littleBytes
 fit-back b at bytes h =
-    six
+    four
     (omega (arith, bytes at))
     (omega (arith, bytes (at + 1), bytes (at + 2)))
     (omega (arith, bytes (at + 1), bytes (at + 2)))
     (omega (arith, bytes (at + 3), bytes (at + 4)))
+    (four
     (omega (arith, bytes (at + 3), bytes (at + 4)))
     (mark-back (byteAt b (at + 5)) h)
+    (omega (arith, bytes (at + 6), bytes (at + 7)))
+    (omega (arith, bytes (at + 6), bytes (at + 7)))
+    refl)

@@ -3,13 +3,13 @@ use Prim.Native.Nat.{ℕ, _+_, _*_}
 use mathlib.Core.Bool.{Bool, not, _&&_}
 use mathlib.Core.List.{List}
 use lib.Dec.{eqb, ltb}
-use lib.ListN.{length, replicate}
+use lib.ListN.{length}
 use Rattle.lists.specs.Cases.{pick}
 use Rattle.lists.specs.Bytes.{byteAt}
 use Rattle.lists.specs.Counts.{howMany}
 use Rattle.lists.specs.Pieces.{each}
 use Rattle.numbers.specs.Numbers.{twoBytes}
-use Rattle.sector.specs.Scan.{blankFit}
+use Rattle.sector.specs.Scan.{blankFits}
 use Rattle.sector.specs.declared.fits.Fit.{Fit}
 use Rattle.parts.specs.Parts.{fitSize, fitsSize}
 
@@ -21,15 +21,13 @@ fitIn b at =
       peak = twoBytes (byteAt b (at + 1)) (byteAt b (at + 2));
       «runner_up» = twoBytes (byteAt b (at + 3)) (byteAt b (at + 4));
       exact = not (eqb (byteAt b (at + 5)) 0);
+      tied = twoBytes (byteAt b (at + 6)) (byteAt b (at + 7));
     }
-
-abbrev pub blankFits : List Fit
-blankFits = replicate 8 blankFit
 
 unfoldable pub fitsIn : List ℕ → List Fit
 fitsIn b = pick (eqb (length b) fitsSize) (each (λ s. fitIn b (fitSize * s)) 8) blankFits
 
--- they are lent as 48 bytes, of which none that marks a fit as exact is above 1
+-- they are lent as 64 bytes, of which none that marks a fit as exact is above 1
 abbrev pub isNoMark : List ℕ → ℕ → Bool
 isNoMark b s = ltb 1 (byteAt b (fitSize * s + 5))
 

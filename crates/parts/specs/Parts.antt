@@ -34,12 +34,18 @@ answerFields x =
     ∷ little 8 (placed (valuesOf x) .fourth)
     ∷ []
 
--- a fit: step, peak, runner-up, exact
+-- a fit: step, peak, runner-up, exact, tied
 abbrev pub fitSize : ℕ
-fitSize = 6
+fitSize = 8
 
 unfoldable pub fitFields : Fit → List Field
-fitFields f = little 1 (f .step) ∷ little 2 (f .peak) ∷ little 2 (f .«runner_up») ∷ little 1 (flag (f .exact)) ∷ []
+fitFields f =
+    little 1 (f .step)
+    ∷ little 2 (f .peak)
+    ∷ little 2 (f .«runner_up»)
+    ∷ little 1 (flag (f .exact))
+    ∷ little 2 (f .tied)
+    ∷ []
 
 abbrev pub fitEntry : List Fit → ℕ → List Field
 fitEntry fits s = fitFields (getD fits s blankFit)

@@ -33,7 +33,8 @@ pub fn put_fit(out: &mut [u8], at: usize, f: Fit) -> usize
     let at = put_u8(out, at, f.step);
     let at = put_u16(out, at, f.peak);
     let at = put_u16(out, at, f.runner_up);
-    put_bool(out, at, f.exact)
+    let at = put_bool(out, at, f.exact);
+    put_u16(out, at, f.tied)
 }
 
 pub fn put_ground(out: &mut [u8], at: usize, g: Ground) -> usize

@@ -18,7 +18,7 @@ pub use tables::put_warnings;
 // How many bytes each takes. The proofs of the whole layouts hold these to the fields.
 pub const ANSWER_SIZE: usize = 40;
 
-pub const FIT_SIZE: usize = 6;
+pub const FIT_SIZE: usize = 8;
 
 pub const GROUND_SIZE: usize = 5;
 
