@@ -51,7 +51,7 @@ module _ (number : ℕ) (stored : List ℕ) (hp : length stored ≡ 4096) where
   refit-at : (s : ℕ) → s < 8 → refitAt (fitsOf number stored) (bytesOf number stored) s ≡ fitAt number stored s
   refit-at s h =
       let e : entry (fitsOf number stored) s ≡ fitAt number stored s = each-at (fitAt number stored) 8 s blankFit h in
-      λ i. record { step = e i .step; peak = e i .peak; «runner_up» = e i .«runner_up»; exact = summary-exact number stored hp s h i }
+      λ i. record { step = e i .step; peak = e i .peak; «runner_up» = e i .«runner_up»; exact = summary-exact number stored hp s h i; tied = e i .tied }
 
   pub refit-fresh : refitOf (fitsOf number stored) (bytesOf number stored) ≡ fitsOf number stored
   unfolding refitOf

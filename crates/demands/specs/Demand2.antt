@@ -1,13 +1,14 @@
 -- DEMAND 2: of an accepted page that is not all zero and read by its own scan, every stored data byte is the byte written, with the sector's
 -- offset, the place in the sector times the sector's step, and bv, modulo 256; each step is the smallest with the largest modal count; the
--- trailer is copied; peaks, runner-ups and the zero mass are those of the page. Assumes nothing.
+-- trailer is copied; peaks, runner-ups, ties and the zero mass are those of the page. Assumes nothing.
 use Prim.Native.Nat.{ℕ, _+_, _-_, _*_, _%_, _≤_, _<_}
 use mathlib.Core.Path.{_≡_}
 use mathlib.Core.Bool.{true, false}
 use mathlib.Core.List.{List}
+use lib.Dec.{eqb}
 use lib.ListN.{length, getD, take, drop}
 use Rattle.lists.specs.Bytes.{byteAt, AllBytes}
-use Rattle.lists.specs.Counts.{count, allSame}
+use Rattle.lists.specs.Counts.{count, howMany, allSame}
 use Rattle.lists.specs.Pieces.{each}
 use Rattle.answers.specs.Answers.{isAccepted}
 use Rattle.answers.specs.declared.settings.Options.{Options}
@@ -44,7 +45,8 @@ abbrev pub leftIn : List ℕ → ℕ → List ℕ → Decoding → List ℕ
 leftIn out number stored d = writtenOf d stored (bytesOf number stored) out
 
 -- the fit of sector bytes l at an offset: its step is the smallest of those with the largest modal count, its peak is that count, its
--- runner-up the second of the 256 counts, sorted; it is exact where the shifted bytes are all equal
+-- runner-up the second of the 256 counts, sorted; it is exact where the shifted bytes are all equal. "The number of steps that reach the peak, 1 to
+-- 256", is "above 1 exactly when runner-up equals peak" (document 02, #106)
 pub record BestFit (offset : ℕ) (l : List ℕ) (f : Fit) : Type 0 where
   pub byte : f .step < 256
   pub most : (k : ℕ) → k < 256 → modalAt offset l k ≤ modalAt offset l (f .step)
@@ -52,6 +54,10 @@ pub record BestFit (offset : ℕ) (l : List ℕ) (f : Fit) : Type 0 where
   pub peak : f .peak ≡ modalAt offset l (f .step)
   pub runner : f .«runner_up» ≡ getD (sortedDown (each (modalAt offset l) 256)) 1 0
   pub exact : f .exact ≡ allSame (shiftedList offset (f .step) l)
+  pub tied : f .tied ≡ howMany (λ k. eqb (modalAt offset l k) (f .peak)) 256
+  pub range : (1 ≤ f .tied) × (f .tied ≤ 256)
+  pub above : 1 < f .tied → f .«runner_up» ≡ f .peak
+  pub equals : f .«runner_up» ≡ f .peak → 1 < f .tied
 
 -- a decoding d of a stored page, and what it wrote
 pub record Recovered (number : ℕ) (stored : List ℕ) (d : Decoding) (written : List ℕ) : Type 0 where
