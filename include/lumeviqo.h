@@ -29,7 +29,7 @@ extern "C" {
 
 /* The version of this page, which rises with every change of a layout, and with every new answer or kind. lumeviqo_version() is that of
    the library: where the two differ no other function may be called. */
-#define LUMEVIQO_VERSION 1
+#define LUMEVIQO_VERSION 2
 
 /* Buffers: a page, stored or plain; its shifted bytes, which are those before the trailer; a sector, and the last of the eight. */
 #define LUMEVIQO_PAGE_LENGTH 4096
@@ -60,12 +60,14 @@ extern "C" {
 /* Value, of an answer or a warning: a u64. */
 #define LUMEVIQO_VALUE_LENGTH 8
 
-/* Fit, of one sector. */
+/* Fit, of one sector. `tied` is 0 where no sector was scanned: in a refused scan or decoding, and in the decoding of an unallocated
+   page. Nothing reads it. A decoding from a summary has all but the flag as lent, whatever the numbers, and makes the flag anew. */
 #define LUMEVIQO_FIT_STEP 0           /* u8 */
 #define LUMEVIQO_FIT_PEAK 1           /* u16 */
 #define LUMEVIQO_FIT_RUNNER_UP 3      /* u16 */
 #define LUMEVIQO_FIT_EXACT 5          /* flag     lent fits with another byte here are refused: 0 is returned */
-#define LUMEVIQO_FIT_LENGTH 6
+#define LUMEVIQO_FIT_TIED 6           /* u16      how many of the 256 steps reach the peak, 1 to 256 in a scanned sector */
+#define LUMEVIQO_FIT_LENGTH 8
 
 /* Fits, as they are lent too: one for each sector, in the sectors' order. */
 #define LUMEVIQO_FITS_LENGTH (LUMEVIQO_SECTOR_COUNT * LUMEVIQO_FIT_LENGTH)

@@ -19,6 +19,9 @@ pub struct Fit {
     pub runner_up: u16,
     /// All agree.
     pub exact: bool,
+    /// How many of the 256 steps reach the peak, 1 to 256 in a scanned sector; 0 in the decoding of an unallocated page. A decoding from a
+    /// summary passes it on as lent.
+    pub tied: u16,
 }
 
 /// Where a page's bv came from.

@@ -49,6 +49,7 @@ impl Layout<'_> {
             peak: self.u16(at + h::FIT_PEAK),
             runner_up: self.u16(at + h::FIT_RUNNER_UP),
             exact: self.flag(at + h::FIT_EXACT),
+            tied: self.u16(at + h::FIT_TIED),
         }
     }
 
@@ -281,6 +282,7 @@ pub fn fits_bytes(fits: &Fits) -> [u8; h::FITS_LENGTH] {
         at[h::FIT_PEAK..h::FIT_RUNNER_UP].copy_from_slice(&f.peak.to_le_bytes());
         at[h::FIT_RUNNER_UP..h::FIT_EXACT].copy_from_slice(&f.runner_up.to_le_bytes());
         at[h::FIT_EXACT] = f.exact as u8;
+        at[h::FIT_TIED..h::FIT_LENGTH].copy_from_slice(&f.tied.to_le_bytes());
     }
     bytes
 }

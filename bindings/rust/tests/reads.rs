@@ -1,4 +1,4 @@
-//! The crate over the library: pages of document 01, lengths, and refusals that leave buffers alone.
+//! The crate over the library: pages of document 01, ties, lengths, and refusals that leave buffers alone.
 use lumeviqo::*;
 
 /// Page 1, zero data, type 0x45, with its CRC.
@@ -10,6 +10,9 @@ fn zero_data() -> [u8; PAGE] {
     page
 }
 
+/// The fit of a sector that was not scanned, on a page that has nothing to scan.
+const UNALLOCATED: Fit = Fit { step: 0, peak: 0, runner_up: 0, exact: true, tied: 0 };
+
 /// Row count 5, its prelude at 0x40, slots at 0x44.
 fn slotted() -> [u8; PAGE] {
     let mut plain = [0; PAGE];
@@ -19,6 +22,11 @@ fn slotted() -> [u8; PAGE] {
         plain[0x44 + 2 * k..][..2].copy_from_slice(&slot.to_le_bytes());
     }
     plain
+}
+
+/// Bytes i(i + 1)/2 of a sector: under no step do more than two agree, and under each two do.
+fn triangular(length: usize) -> Vec<u8> {
+    (0..length).map(|i| (i * (i + 1) / 2) as u8).collect()
 }
 
 #[test]
@@ -53,7 +61,56 @@ fn an_unallocated_page_has_no_bv() {
     let d = decode(5, &[0; PAGE], &[], Options::default(), &mut out).unwrap();
     assert_eq!((d.bv, d.source, d.confidence), (None, Source::Unallocated, Confidence::Unallocated));
     assert_eq!(d.evidence, [Evidence::Unallocated]);
+    assert_eq!(d.fits, [UNALLOCATED; 8]);
     assert_eq!(out, [0; PAGE]);
+}
+
+/// A shift by a constant changes no count, so the page number plays no part.
+#[test]
+fn tied_steps_are_counted() {
+    let mut page = [0; PAGE];
+    page[..512].copy_from_slice(&triangular(512));
+    page[0x700..0x800].copy_from_slice(&std::array::from_fn::<u8, 256, _>(|i| i as u8)); // behind 256 zeros
+    page[0xE00..0xFF0].copy_from_slice(&triangular(496));
+    for number in [0, 1, 9, u64::MAX] {
+        let fits = scan(number, &page, &mut [0; SHIFTED]).unwrap();
+        let all_tie = Fit { step: 0, peak: 2, runner_up: 2, exact: false, tied: 256 };
+        assert_eq!([fits[0], fits[7]], [all_tie; 2]);
+        assert_eq!(fits[3], Fit { step: 0, peak: 257, runner_up: 257, exact: false, tied: 2 });
+        assert_eq!(fits[1], Fit { step: 0, peak: 512, runner_up: 256, exact: true, tied: 1 });
+    }
+}
+
+#[test]
+fn what_is_lent_as_tied_is_passed_on() {
+    let (mut page, mut shifted, mut out) = (zero_data(), [0; SHIFTED], [0; PAGE]);
+    let options = Options { leniency: Leniency::KEYSTREAM, ..Options::default() };
+    let mut fits = scan(1, &page, &mut shifted).unwrap();
+    assert_eq!(fits.map(|f| f.tied), [1; 8]);
+    for (fit, tied) in fits.iter_mut().zip([0, 1, 2, 256, 257, 4_660, 65_534, 65_535]) {
+        fit.tied = tied;
+    }
+    assert_eq!(decode_summary(1, &page, &fits, &shifted, &[], options, &mut out).unwrap().fits, fits);
+    assert_eq!(decode_supplied_summary(1, &page, &fits, &shifted, 249, options, &mut out).unwrap().fits, fits);
+    assert_eq!(decode_summary(1, &[0; PAGE], &fits, &shifted, &[], options, &mut out).unwrap().fits, [UNALLOCATED; 8]);
+
+    let replaced = replace(1, &mut page, &mut shifted, &fits, 2, &triangular(512)).unwrap();
+    fits[2] = Fit { step: 0, peak: 2, runner_up: 2, exact: false, tied: 256 };
+    assert_eq!(replaced, fits);
+}
+
+/// 48 bytes too, which would be eight fits that end before `tied`.
+#[test]
+fn fits_of_another_length_are_no_fits() {
+    let (page, shifted, fits) = (zero_data(), [0; SHIFTED], [0; 65]);
+    for length in [0, 48, 63, 65] {
+        let (mut out, mut answer) = ([7; PAGE], [7; header::DECODING_LENGTH]);
+        let (o, a) = (out.as_mut_ptr(), answer.as_mut_ptr());
+        let (p, f, m) = (page.as_ptr(), fits.as_ptr(), shifted.as_ptr());
+        let written =
+            unsafe { sys::lumeviqo_decode_summary(1, p, PAGE, f, length, m, SHIFTED, p, 0, 1, 4, o, PAGE, a, header::DECODING_LENGTH) };
+        assert_eq!((written, out, answer), (0, [7; PAGE], [7; header::DECODING_LENGTH]));
+    }
 }
 
 #[test]
