@@ -12,7 +12,7 @@ use crate::lent::{BEFORE, Fault};
 use crate::questions::Question;
 use crate::random::Random;
 use crate::shrink::hex;
-use crate::summary::Summary;
+use crate::summary::{ANY_TIED, Summary};
 use crate::tally::Tally;
 use crate::{as_c, as_rust, layouts};
 
@@ -136,6 +136,7 @@ fn marked(page: &[u8], r: &mut Random) -> (usize, Vec<u8>) {
 fn whole_page(case: &Case, reading: &Reading<'_>, tally: &mut Tally) -> Checked {
     let (n, page, anchors, bits) = (case.number, &case.page[..], &case.anchors[..], case.bits);
     let summary = Summary::of(reading);
+    tally.scanned(&summary.fits);
     scan(case, &Ok(&summary), SHIFTED, tally)?;
 
     // The case's options and anchors by its own scan, and the summary with those, without anchors, and in full leniency.
@@ -146,8 +147,7 @@ fn whole_page(case: &Case, reading: &Reading<'_>, tally: &mut Tally) -> Checked 
         from_summary(tally, Question::SummaryDecoding, case, page, &summary, anchors, bits, &reading.decode(anchors, bits))?;
     }
     many_anchors(case, reading, &summary, tally)?;
-    let turned = reading.turned();
-    from_summary(tally, Question::ForeignDecoding, case, page, &Summary::of(&turned), anchors, bits, &turned.decode(anchors, bits))?;
+    foreign(case, &reading.turned(), tally)?;
 
     supplied(case, reading, &summary, tally)?;
     if let Ok(d) = &expected {
@@ -161,7 +161,7 @@ fn whole_page(case: &Case, reading: &Reading<'_>, tally: &mut Tally) -> Checked 
 
 /// The fits and the shifted bytes, or a refusal that writes none.
 fn scan(case: &Case, expected: &Result<&Summary, Refusal>, room: usize, tally: &mut Tally) -> Checked {
-    let none = Summary { fits: [Fit { step: 0, peak: 0, runner_up: 0, exact: false }; 8], shifted: vec![BEFORE; room] };
+    let none = Summary { fits: [Fit::default(); 8], shifted: vec![BEFORE; room] };
     let (question, after) = (Question::Scan, expected.as_ref().copied().unwrap_or(&none));
     tally.answer(question, expected.as_ref().err());
     let mut shifted = vec![BEFORE; room];
@@ -223,6 +223,19 @@ fn from_summary(
         .map_err(|d| d.asked(format!("options {bits}, anchors {anchors:?}")))
 }
 
+/// From the summary of another page, as that is, and with any numbers of tied steps: they are passed on as lent.
+fn foreign(case: &Case, other: &Reading<'_>, tally: &mut Tally) -> Checked {
+    let (question, page, anchors, bits) = (Question::ForeignDecoding, &case.page, &case.anchors, case.bits);
+    let (summary, expected) = (Summary::of(other), other.decode(anchors, bits));
+    from_summary(tally, question, case, page, &summary, anchors, bits, &expected)?;
+    let (summary, expected) = (summary.with_tied(ANY_TIED), expected.map(|d| d.with_tied(ANY_TIED)));
+    from_summary(tally, question, case, page, &summary, anchors, bits, &expected).map_err(lent_tied)
+}
+
+fn lent_tied(d: Difference) -> Difference {
+    d.asked(format!("tied {ANY_TIED:?}"))
+}
+
 /// More anchors than a byte counts, for one page in fifty more than two bytes do; those that may decide stand last.
 fn many_anchors(case: &Case, reading: &Reading<'_>, summary: &Summary, tally: &mut Tally) -> Checked {
     let (n, page, bits) = (case.number, &case.page[..], case.bits);
@@ -242,9 +255,10 @@ fn supplied(case: &Case, reading: &Reading<'_>, summary: &Summary, tally: &mut T
     let expected = reading.decode_supplied(bv, bits);
     let as_c = |o: &mut [u8]| as_c::decode_supplied(n, page, bv, bits, o);
     decoding(tally, Question::Supplied, PAGE, &expected, as_c, |o| as_rust::decode_supplied(n, page, bv, bits, o))?;
-    let as_c = |o: &mut [u8]| as_c::decode_supplied_summary(n, page, summary, bv, bits, o);
-    let as_rust = |o: &mut [u8]| as_rust::decode_supplied_summary(n, page, summary, bv, bits, o);
-    decoding(tally, Question::SummarySupplied, PAGE, &expected, as_c, as_rust)
+    let (summary, expected) = (summary.clone().with_tied(ANY_TIED), expected.map(|d| d.with_tied(ANY_TIED)));
+    let as_c = |o: &mut [u8]| as_c::decode_supplied_summary(n, page, &summary, bv, bits, o);
+    let as_rust = |o: &mut [u8]| as_rust::decode_supplied_summary(n, page, &summary, bv, bits, o);
+    decoding(tally, Question::SummarySupplied, PAGE, &expected, as_c, as_rust).map_err(lent_tied)
 }
 
 /// By the case's options, and with DIRECTORY the other way.

@@ -1,5 +1,5 @@
 //! The kinds of input. Each is made from a stream of random numbers alone.
-use crate::plan::{DATA, Fill, LIMIT, Plan, fill, inexact, put, slots, write_directory};
+use crate::plan::{DATA, Fill, LIMIT, Plan, fill, inexact, put, slots, triangular, write_directory};
 use crate::random::Random;
 
 /// One input, and what is asked about it.
@@ -210,13 +210,21 @@ fn near(r: &mut Random) -> Case {
     case_of(r, plan)
 }
 
+/// Steps of some sectors tie, for one page in three all steps of a sector.
 fn tied(r: &mut Random) -> Case {
     let mut plan = Plan::new(r);
     for _ in 0..r.from_to(1, 8) {
         let s = r.below(8);
         fill(r, plan.sector(s), Fill::Tied);
     }
-    case_of(r, plan)
+    let mut case = case_of(r, plan);
+    if r.one_in(3) {
+        let s = r.below(8);
+        let n = if s == 7 { 496 } else { 512 };
+        case.page[s * 512..s * 512 + n].copy_from_slice(&triangular(n));
+        recrc(&mut case.page);
+    }
+    case
 }
 
 /// A prelude with its slots in sectors 0 and 1, its rows behind it; the row count.

@@ -55,7 +55,7 @@ impl Layout {
     }
 
     fn fits(self, fits: &[Fit; 8]) -> Self {
-        fits.iter().fold(self, |l, f| l.u8(f.step).u16(f.peak).u16(f.runner_up).flag(f.exact))
+        fits.iter().fold(self, |l, f| l.u8(f.step).u16(f.peak).u16(f.runner_up).flag(f.exact).u16(f.tied))
     }
 
     fn candidates(self, bvs: &[u8]) -> Self {

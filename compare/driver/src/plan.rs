@@ -126,6 +126,11 @@ pub fn fill(r: &mut Random, part: &mut [u8], how: Fill) {
     }
 }
 
+/// Bytes i(i + 1)/2, in a sector of which all 256 steps tie.
+pub fn triangular(length: usize) -> Vec<u8> {
+    (0..length).map(|i| (i * (i + 1) / 2) as u8).collect()
+}
+
 /// A fill that is not exact, most often a confident one.
 pub fn inexact(r: &mut Random) -> Fill {
     match r.below(12) {

@@ -1,8 +1,8 @@
-//! How often each kind of input, question, answer, source, confidence, evidence and warning was met.
+//! How often each kind of input, question, answer, source, confidence, evidence, warning and number of tied steps was met.
 use std::collections::BTreeMap;
 use std::fmt;
 
-use oracle::plain::{Decoded, Parsed, Refusal, Warning};
+use oracle::plain::{Decoded, Fit, Parsed, Refusal, Warning};
 
 use crate::kinds::KINDS;
 use crate::questions::Question;
@@ -19,6 +19,8 @@ pub struct Tally {
     pub evidence: Counts<u8>,
     pub warnings: Counts<u8>,
     pub reasons: Counts<u8>,
+    /// Of scanned sectors.
+    pub tied: Counts<u16>,
 }
 
 impl Tally {
@@ -30,6 +32,12 @@ impl Tally {
         *self.answers.entry((question, refusal.map_or(0, |r| r.number))).or_default() += 1;
         if let Some(Refusal { number: 8, values, .. }) = refusal {
             *self.reasons.entry(values[1] as u8).or_default() += 1;
+        }
+    }
+
+    pub fn scanned(&mut self, fits: &[Fit; 8]) {
+        for fit in fits {
+            *self.tied.entry(fit.tied).or_default() += 1;
         }
     }
 
@@ -70,6 +78,7 @@ impl Tally {
         join(&mut self.evidence, other.evidence);
         join(&mut self.warnings, other.warnings);
         join(&mut self.reasons, other.reasons);
+        join(&mut self.tied, other.tied);
     }
 
     /// What a full run must reach and this one did not.
@@ -90,6 +99,7 @@ impl Tally {
         want("confidence", &self.confidences, 1..=5);
         want("evidence", &self.evidence, 1..=5);
         want("warning", &self.warnings, 3..=12);
+        out.extend([1, 2, 256].iter().filter(|n| !self.tied.contains_key(n)).map(|n| format!("{n} tied steps")));
         out
     }
 
@@ -128,6 +138,7 @@ impl fmt::Display for Tally {
             let list: Vec<String> = table.iter().map(|(k, n)| format!("{k}: {n}")).collect();
             writeln!(f, "{what}\n  {}", list.join(", "))?;
         }
-        Ok(())
+        let tied: Vec<String> = self.tied.iter().map(|(k, n)| format!("{k}: {n}")).collect();
+        writeln!(f, "tied steps\n  {}", tied.join(", "))
     }
 }

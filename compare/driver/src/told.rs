@@ -36,7 +36,7 @@ pub fn refusal(r: lumeviqo::Refusal) -> Refusal {
 }
 
 pub fn fits(fits: lumeviqo::Fits) -> [Fit; 8] {
-    fits.map(|f| Fit { step: f.step, peak: f.peak, runner_up: f.runner_up, exact: f.exact })
+    fits.map(|f| Fit { step: f.step, peak: f.peak, runner_up: f.runner_up, exact: f.exact, tied: f.tied })
 }
 
 fn warning(w: lumeviqo::Warning) -> Warning {

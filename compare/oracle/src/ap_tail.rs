@@ -1,6 +1,6 @@
 
 /// Appended to the original's ap.rs for the comparison: a page's scan, and what `ApModel::deobfuscate` makes of it, in its order, with the
-/// anchors given instead of searched for in the block.
+/// anchors given instead of searched for in the block; and how many steps tied, which the original does not count.
 pub mod reached {
     use super::*;
 
@@ -44,6 +44,24 @@ pub mod reached {
         let (start, end) = sector_range(s);
         let scan = scan_sector(&page.bytes()[start..end], ap_offset(page.index(), s));
         ((scan.step, scan.peak, scan.runner_up, scan.is_exact()), scan.m)
+    }
+
+    /// Of one sector how many of the 256 steps reach the peak. A scan does not count them, since it is timed.
+    pub fn tied(page: Page<'_>, s: usize) -> usize {
+        let (start, end) = sector_range(s);
+        let (bytes, offset) = (&page.bytes()[start..end], ap_offset(page.index(), s));
+        let counts: Vec<u16> = (0..=255).map(|step| modal_count(bytes, offset, step)).collect();
+        let peak = counts.iter().max();
+        counts.iter().filter(|&count| Some(count) == peak).count()
+    }
+
+    /// How many shifted bytes are equal, at most.
+    fn modal_count(bytes: &[u8], offset: u8, step: u8) -> u16 {
+        let mut counts = [0; 256];
+        for (i, &b) in bytes.iter().enumerate() {
+            counts[shifted(b, offset, i, step) as usize] += 1;
+        }
+        counts.into_iter().max().unwrap_or(0)
     }
 
     pub fn deobfuscate(page: Page<'_>, anchors: &BTreeSet<u8>, opts: &ReadOptions) -> Result<DeobfuscatedPage> {

@@ -54,21 +54,26 @@ pub fn superblock_checked(bytes: &[u8]) -> Result<Superblock, Refusal> {
 pub struct Reading<'a> {
     page: Page<'a>,
     scanned: Scanned<'a>,
+    /// Of each sector, beside its scan.
+    tied: [u16; 8],
 }
 
 impl<'a> Reading<'a> {
     pub fn new(number: u64, bytes: &'a [u8]) -> Result<Self, Refusal> {
         let page = page(number, bytes)?;
-        Ok(Reading { page, scanned: Scanned::new(page) })
+        Ok(Reading { page, scanned: Scanned::new(page), tied: std::array::from_fn(|s| tied(page, s)) })
     }
 
     /// The page with the summary of another: sectors 0 to 6 in another order.
     pub fn turned(&self) -> Self {
-        Reading { page: self.page, scanned: self.scanned.turned() }
+        let mut tied = self.tied;
+        tied[..7].rotate_left(1);
+        Reading { page: self.page, scanned: self.scanned.turned(), tied }
     }
 
     pub fn fits(&self) -> [Fit; 8] {
-        self.scanned.fits().map(fit)
+        let fits = self.scanned.fits();
+        std::array::from_fn(|s| fit(fits[s], self.tied[s]))
     }
 
     pub fn shifted(&self) -> Vec<u8> {
@@ -77,12 +82,12 @@ impl<'a> Reading<'a> {
 
     pub fn decode(&self, anchors: &[u8], bits: u8) -> Result<Decoded, Refusal> {
         let anchors: BTreeSet<u8> = anchors.iter().copied().collect();
-        self.scanned.deobfuscate(&anchors, &options(bits)).map(|d| decoded(&d)).map_err(refusal)
+        self.scanned.deobfuscate(&anchors, &options(bits)).map(|d| decoded(&d).with_tied(self.tied)).map_err(refusal)
     }
 
     /// The original scans anew for a supplied bv.
     pub fn decode_supplied(&self, bv: u8, bits: u8) -> Result<Decoded, Refusal> {
-        ApModel::deobfuscate_with_bv(self.page, bv, &options(bits)).map(|d| decoded(&d)).map_err(refusal)
+        ApModel::deobfuscate_with_bv(self.page, bv, &options(bits)).map(|d| decoded(&d).with_tied(self.tied)).map_err(refusal)
     }
 }
 
@@ -90,7 +95,12 @@ impl<'a> Reading<'a> {
 pub fn sector(number: u64, bytes: &[u8], s: usize) -> (Fit, Vec<u8>) {
     let page = page(number, bytes).expect("its length is a page's");
     let (scanned, shifted) = ap::reached::sector(page, s);
-    (fit(scanned), shifted)
+    (fit(scanned, tied(page, s)), shifted)
+}
+
+/// How many steps of a sector tied: the number that the original's shifted bytes give, though it does not count them.
+fn tied(page: Page<'_>, s: usize) -> u16 {
+    narrow(ap::reached::tied(page, s))
 }
 
 pub fn parse(number: u64, plain: &[u8], bits: u8) -> Result<Parsed, Refusal> {
@@ -128,8 +138,8 @@ fn page(number: u64, bytes: &[u8]) -> Result<Page<'_>, Refusal> {
     Page::from_bytes(number, bytes).map_err(refusal)
 }
 
-fn fit((step, peak, runner_up, exact): (u8, usize, usize, bool)) -> Fit {
-    Fit { step, peak: narrow(peak), runner_up: narrow(runner_up), exact }
+fn fit((step, peak, runner_up, exact): (u8, usize, usize, bool), tied: u16) -> Fit {
+    Fit { step, peak: narrow(peak), runner_up: narrow(runner_up), exact, tied }
 }
 
 fn narrow(n: usize) -> u16 {
@@ -169,7 +179,7 @@ fn decoded(d: &DeobfuscatedPage) -> Decoded {
         source: source(d.bv_source()),
         confidence: confidence(d.confidence()),
         evidence: d.evidence().iter().map(evidence).collect(),
-        fits: d.sectors().map(|f| Fit { step: f.step(), peak: narrow(f.peak()), runner_up: narrow(f.runner_up()), exact: f.exact() }),
+        fits: d.sectors().map(|f| fit((f.step(), f.peak(), f.runner_up(), f.exact()), 0)),
         warnings: d.warnings().iter().map(warning).collect(),
         plain: d.bytes().to_vec(),
     }

@@ -8,12 +8,14 @@ pub struct Refusal {
     pub candidates: Vec<u8>,
 }
 
-#[derive(Debug, Clone, Copy, PartialEq, Eq)]
+/// A blank one, of a sector that was not scanned, is the default.
+#[derive(Debug, Clone, Copy, Default, PartialEq, Eq)]
 pub struct Fit {
     pub step: u8,
     pub peak: u16,
     pub runner_up: u16,
     pub exact: bool,
+    pub tied: u16,
 }
 
 #[derive(Debug, Clone, PartialEq, Eq)]
@@ -35,6 +37,16 @@ pub struct Decoded {
     pub fits: [Fit; 8],
     pub warnings: Vec<Warning>,
     pub plain: Vec<u8>,
+}
+
+impl Decoded {
+    /// With the numbers of tied steps that its summary has. Of an unallocated page no sector is scanned.
+    pub fn with_tied(mut self, tied: [u16; 8]) -> Self {
+        if self.bv.is_some() {
+            self.fits.iter_mut().zip(tied).for_each(|(fit, tied)| fit.tied = tied);
+        }
+        self
+    }
 }
 
 #[derive(Debug, Clone, PartialEq, Eq)]

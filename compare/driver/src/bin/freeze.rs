@@ -1,12 +1,14 @@
 //! freeze SEED FOLDER: the questions and answers of the program `frozen`, as FOLDER/stdin and FOLDER/stdout, all from the original; where it
 //! has no counterpart (lengths of lent buffers, replacement, row numbers) from document 01. A question is taken where it shows something that
-//! none before it does: a function's answer or reason, a source with its confidence, a row of evidence, a kind of warning, a type of page.
+//! none before it does: a function's answer or reason, a source with its confidence, a row of evidence, a kind of warning, a type of page; and,
+//! on pages that are made for it, how many steps tied.
 use std::collections::BTreeSet;
 use std::fs::write;
 use std::path::Path;
 
-use compare::kinds::{Case, case};
+use compare::kinds::{Case, case, recrc};
 use compare::layouts;
+use compare::plan::triangular;
 use compare::shrink::hex;
 use oracle::{Decoded, Fit, Parsed, Reading, Refusal, Warning};
 
@@ -84,6 +86,7 @@ fn main() {
             rows(&case, plain, &mut frozen);
         }
     }
+    ties().iter().for_each(|case| whole_page(case, &mut frozen));
     too_many(&case(seed, 0), &mut frozen);
     println!("{} questions, which show {} things", frozen.questions, frozen.shown.len());
     write(Path::new(folder).join("stdin"), frozen.stdin).expect("FOLDER/stdin can be written");
@@ -126,6 +129,29 @@ fn refused(number: u8, value: usize) -> Refusal {
     Refusal { number, values: vec![value as u64], candidates: Vec::new() }
 }
 
+const TIES: &str = "ties";
+
+/// A page of exact sectors, to which come three: all steps tie in 512 and in 496 bytes, and two do. And the page that has them all.
+fn ties() -> [Case; 2] {
+    let mut page = vec![0; 4096];
+    page[0xFF2] = b'E';
+    recrc(&mut page);
+    let two_tie = [vec![0; 256], (0..=255).collect()].concat();
+    let replacements = vec![(0, triangular(512)), (3, two_tie), (7, triangular(496))];
+    let exact = Case { kind: TIES, number: 9, page, bits: 7, anchors: Vec::new(), bv: 0, plain: None, replacements };
+    let mut tied = Case { replacements: Vec::new(), ..exact.clone() };
+    for (sector, bytes) in &exact.replacements {
+        tied.page[sector * 512..][..bytes.len()].copy_from_slice(bytes);
+    }
+    recrc(&mut tied.page);
+    [exact, tied]
+}
+
+/// How many steps tied. Other pages have ties that show nothing new.
+fn tied(case: &Case, fits: &[Fit; 8]) -> Option<String> {
+    (case.kind == TIES).then(|| format!("tied {:?}", fits.map(|f| f.tied)))
+}
+
 /// Answer 15, which no page gives.
 fn too_many(case: &Case, frozen: &mut Frozen) {
     let answer = Err(refused(15, case.number as usize));
@@ -165,8 +191,9 @@ fn whole_page(case: &Case, frozen: &mut Frozen) {
 
     let line = hex(&layouts::fits(None, &fits)) + &crc(&shifted);
     let exact = fits.iter().filter(|f| f.exact).count();
-    frozen.take(Question { room: 4080, ..about(Asked::Scan, case, page) }, Expected { line, shows: vec![format!("{exact} exact")] });
-    let none = [Fit { step: 0, peak: 0, runner_up: 0, exact: false }; 8];
+    let shows = [format!("{exact} exact")].into_iter().chain(tied(case, &fits)).collect();
+    frozen.take(Question { room: 4080, ..about(Asked::Scan, case, page) }, Expected { line, shows });
+    let none = [Fit::default(); 8];
     for room in [0, 4079] {
         let refusal = refused(2, room);
         let line = hex(&layouts::fits(Some(&refusal), &none)) + &crc(&vec![0; room]);
@@ -206,6 +233,7 @@ fn decoding_shows(case: &Case, answer: &Result<Decoded, Refusal>) -> Vec<String>
         out.push(format!("source {} confidence {}", d.source, d.confidence));
         out.push(format!("evidence {:?}", d.evidence.iter().map(|e| e.0).collect::<Vec<_>>()));
         out.extend(d.evidence.iter().filter_map(|e| telling(d, e)));
+        out.extend(tied(case, &d.fits));
         out.extend(warned(&d.warnings));
     }
     out
@@ -236,7 +264,8 @@ fn replacement(case: &Case, sector: usize, bytes: &[u8], before: &Reading<'_>, f
     let decoded = after.decode(&case.anchors, case.bits);
     let line =
         hex(&layouts::fits(refusal.as_ref(), &shown.fits())) + &crc(&page) + &crc(&shown.shifted()) + " " + &decoding_line(&decoded, 4096);
-    let shows = vec![format!("fitting {fitting} sector {sector}"), number(&decoded)];
+    let mut shows = vec![format!("fitting {fitting} sector {sector}"), number(&decoded)];
+    shows.extend(tied(case, &shown.fits()));
     let asked = about(Asked::Replacement, case, &case.page);
     frozen.take(Question { place: sector, bytes, room: 4080, ..asked }, Expected { line, shows });
 }
