@@ -46,7 +46,7 @@ pub fn rows(number: u64, plain: &[u8], bits: u8) {
     drop(black_box(SlottedPage::parse(page(number, plain), &options(bits)).map(|p| p.rows())));
 }
 
-/// The bytes of the report line of document 01.
+/// The bytes of a report line, but for those of tied steps, which the original does not count.
 pub fn report(number: u64, bytes: &[u8], anchors: &[u8], bits: u8) -> Vec<u8> {
     let anchors = anchors.iter().copied().collect();
     let answer = deobfuscate(page(number, bytes), &anchors, &options(bits)).map_err(refusal);

@@ -10,7 +10,7 @@ use compare::bench_pages::{BITS, COUNT, OPTIONS, Pages, falling, progressions, r
 use compare::shrink::hex;
 use compare::timing::{Group, table, time};
 use lumeviqo::{Fits, Leniency, PAGE, SHIFTED};
-use oracle::timed;
+use oracle::{Reading, timed};
 
 fn main() -> ExitCode {
     let mut args = std::env::args().skip(1);
@@ -140,6 +140,8 @@ struct Frames {
     name: &'static str,
     count: usize,
     file: PathBuf,
+    /// Of each page in its turn, the digits of its tied steps.
+    tied: Vec<String>,
 }
 
 impl Frames {
@@ -154,14 +156,31 @@ impl Frames {
         let frame = |k: usize| format!("{:016x}{BITS:02x}0400{}\n", k % pages.len(), hex(&pages[k % pages.len()]));
         let file = std::env::temp_dir().join(format!("lumeviqo-{}-{name}", std::process::id()));
         std::fs::write(&file, (0..count).map(frame).collect::<String>()).expect("a file for the frames");
-        Frames { name, count, file }
+        Frames { name, count, file, tied: (0..).zip(pages).map(|(k, page)| tied(k, page)).collect() }
     }
 
+    /// Whether the lines without their tied steps are the original's, and those are what is counted.
     fn check(&self, report: &Path) -> Result<(), String> {
-        let lines = run(report, &self.file);
-        let alike = lines == run(&original_report(), &self.file) && lines.iter().filter(|&&b| b == b'\n').count() == self.count;
+        let text = |program: &Path| String::from_utf8(run(program, &self.file)).expect("digits and newlines");
+        let (kept, tied): (Vec<String>, Vec<String>) = text(report).split('\n').map(parted).unzip();
+        let counted: String = self.tied.iter().map(String::as_str).cycle().take(self.count).collect();
+        let alike = kept.join("\n") == text(&original_report()) && kept.len() == self.count + 1 && tied.concat() == counted;
         alike.then_some(()).ok_or_else(|| format!("lines of {} frames differ", self.name))
     }
+}
+
+/// The digits of a page's tied steps in its line, as they are counted.
+fn tied(number: u64, page: &[u8]) -> String {
+    let decoded = Reading::new(number, page).and_then(|reading| reading.decode(&[], BITS));
+    decoded.map_or(String::new(), |d| d.fits.iter().map(|f| format!("{:04x}", f.tied)).collect())
+}
+
+/// A line without the digits of tied steps, the last four of each fit's sixteen, and those digits. A refusal has no fits.
+fn parted(line: &str) -> (String, String) {
+    let (from, to) = (24, 152);
+    let Some(fits) = line.get(from..to) else { return (line.to_string(), String::new()) };
+    let (kept, tied): (Vec<&str>, Vec<&str>) = (0..8).map(|s| fits[16 * s..16 * s + 16].split_at(12)).unzip();
+    (line[..from].to_string() + &kept.concat() + &line[to..], tied.concat())
 }
 
 impl Drop for Frames {

@@ -1,4 +1,5 @@
-//! original_report: what `report` does, by the original. `bench` times the one beside the other.
+//! original_report: what `report` does, by the original, but for the number of steps that tied: a fit has 6 bytes. `bench` times the one beside
+//! the other.
 use std::io::{self, BufRead, BufReader, BufWriter, Write};
 
 /// Characters in a block, as in `report`.
