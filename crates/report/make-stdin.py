@@ -36,7 +36,7 @@ def scan(page, stored):
         peak = max(counts)
         step = counts.index(peak)
         values = shift(part, off, step)
-        fits.append((step, peak, sorted(counts)[-2], len(set(values)) == 1))
+        fits.append((step, peak, sorted(counts)[-2], len(set(values)) == 1, counts.count(peak)))
         shifted.append(values)
     return fits, shifted
 
@@ -121,7 +121,7 @@ def choose(shifted, anchors, count, t, lenient):
 # "Decoding order": a refusal's number, or source, confidence, bv, fits, warnings
 def decode(page, stored, anchors, options, t):
     if not any(stored):
-        return 6, 1, 0, [(0, 0, 0, True)] * 8, 0
+        return 6, 1, 0, [(0, 0, 0, True, 0)] * 8, 0
     warnings = 0
     trailer = stored[TRAILER:]
     bad_crc = int.from_bytes(trailer[12:], "little") != zlib.crc32(bytes(stored[:4092]))
@@ -153,7 +153,8 @@ def report(line):
     if isinstance(answer, int):
         return f"{answer:02x}{page:016x}"
     source, confidence, bv, fits, warnings = answer
-    return f"00{page:016x}{source:02x}{confidence:02x}{bv:02x}" + "".join(f"{s:02x}{p:04x}{r:04x}{e:02x}" for s, p, r, e in fits) + f"{warnings:02x}"
+    sectors = "".join(f"{step:02x}{peak:04x}{runner_up:04x}{exact:02x}{tied:04x}" for step, peak, runner_up, exact, tied in fits)
+    return f"00{page:016x}{source:02x}{confidence:02x}{bv:02x}{sectors}{warnings:02x}"
 
 
 # The lines
@@ -184,6 +185,8 @@ def lines():
     noise = [0 if rng.random() < 0.4 else rng.randrange(256) for _ in range(DATA)]
     one = [0] * 512 + [0 if rng.random() < 0.4 else rng.randrange(1, 256) for _ in range(DATA - 512)]
     full = [rng.randrange(256) for _ in range(DATA)]
+    all_tie = [i * (i + 1) // 2 % 256 for i in range(512)]
+    ties = all_tie + [0] * 1280 + list(range(256)) + [0] * 1536 + all_tie[:496]      # all 256 steps in sectors 0 and 7, two in sector 3
     last = 2 ** 64 - 1
     example, ambiguous = frame(5, bytes(PAGE)), frame(1, sealed(zero))
     yield example                                                        # document 01's example line
@@ -223,6 +226,9 @@ def lines():
     yield example[:20] + b"ff" + b"0" * (8725 - 22)                      # one character more than the longest frame
     yield b"0" * 70000                                                   # more than a block
     yield frame(123456789, bytes(PAGE), 0, 4, bytes(255))                # the longest frame
+    yield frame(9, sealed(ties), KEYSTREAM)                              # steps that tie
+    yield frame(last, sealed(hidden(last, ties, 0x33, steps)), KEYSTREAM)                      # 255 and 0 tie in sector 3
+    yield frame(last, sealed(hidden(last, ties, 0x33, steps)))           # strictly sector 0 is in doubt
     yield frame(2, sealed(hidden(2, zero, 0xFF, steps))).upper()         # and a last line with no newline
 
 
