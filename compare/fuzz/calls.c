@@ -1,5 +1,5 @@
 /* Calls the C interface with lengths and bytes that nobody meant, to see that it answers each as include/lumeviqo.h says.
-   calls lengths               each buffer of each function with 0 bytes, one too few, one too many, and 2^32
+   calls lengths               each buffer of each function with 0 bytes, one too few, one too many, and 2^32; fits with 48
    calls random SECONDS SEED   calls made from SEED, the same calls for the same seed
    The library has no instrumentation, so each lent buffer stands in an arena of its own, once with its end at an inaccessible page
    and once with its start behind one; what a function may not write to is mapped read-only while it runs. */
@@ -19,6 +19,7 @@
 enum { PAGE, FITS, SHIFTED, ANCHORS, BYTES, OUT, ANSWER, ROLES };
 enum { WHOLE = LUMEVIQO_PAGE_LENGTH, DATA = LUMEVIQO_SHIFTED_LENGTH, SECTOR = LUMEVIQO_SECTOR_LENGTH, SECTORS = LUMEVIQO_SECTOR_COUNT };
 enum { MEMORY_PAGE = 4096, ROOM = 3 * MEMORY_PAGE, CANARY = 0x5C };
+enum { STEPS = 256, FITS_WITHOUT_TIED = SECTORS * LUMEVIQO_FIT_TIED };
 enum { ANSWERS = LUMEVIQO_NO_SUCH_ROW + 1, NO_ANSWER = ANSWERS };
 
 /* Places in a page: how far a directory is searched for and where a row may start, then of the trailer, from its first byte, and of
@@ -430,6 +431,34 @@ static void check_shifted(const uint8_t *page, const uint8_t *shifted, const uin
         must(page[k] == (uint8_t)(shifted[k] + bv + shift_of(k, fits)), "a stored byte is the written one, shifted back");
 }
 
+static void check_scanned_fit(const uint8_t *fit) {
+    uint64_t tied = u16_at(fit + LUMEVIQO_FIT_TIED);
+    must(tied >= 1 && tied <= STEPS, "in a scanned sector 1 to 256 steps tie");
+    must((tied > 1) == same_u16(fit + LUMEVIQO_FIT_PEAK, fit + LUMEVIQO_FIT_RUNNER_UP), "steps tie where the runner-up reaches the peak");
+}
+
+static void check_scan(const Outcome *o) {
+    const uint8_t *fits = o->held[ANSWER] + LUMEVIQO_SCAN_FITS;
+    check_shifted(call.held[PAGE], o->held[SHIFTED], fits, 0);
+    for (size_t s = 0; s < SECTORS; s++)
+        check_scanned_fit(fits + fit_at(s));
+}
+
+/* The flag is made anew from the shifted bytes. */
+static bool same_but_flag(const uint8_t *lent, const uint8_t *back) {
+    return memcmp(lent, back, LUMEVIQO_FIT_EXACT) == 0 && same_u16(lent + LUMEVIQO_FIT_TIED, back + LUMEVIQO_FIT_TIED);
+}
+
+static void check_decoding_fit(const uint8_t *fit, const uint8_t *lent, bool unallocated, bool from_summary) {
+    static const uint8_t unscanned[LUMEVIQO_FIT_LENGTH] = {[LUMEVIQO_FIT_EXACT] = 1};
+    if (unallocated)
+        must(same_fit(fit, unscanned), "an unallocated page has fits of zeros, marked exact");
+    else if (from_summary)
+        must(same_but_flag(lent, fit), "step, peak, runner-up and tied steps are passed on as lent");
+    else
+        check_scanned_fit(fit);
+}
+
 static void check_decoding(const Outcome *o) {
     const uint8_t *a = o->held[ANSWER], *page = call.held[PAGE], *out = o->held[OUT], *shifted = call.held[SHIFTED];
     bool from_summary = functions[call.function].lent & OF(SHIFTED), unallocated = all_are(page, WHOLE, 0);
@@ -446,6 +475,8 @@ static void check_decoding(const Outcome *o) {
     must(call.leniency & (LUMEVIQO_LENIENT_KEYSTREAM | LUMEVIQO_LENIENT_INTEGRITY) || warnings == 0, "a strict decoding has no warnings");
     must((source == LUMEVIQO_SOURCE_UNALLOCATED) == unallocated, "a page is unallocated where all of it is zero");
     must(memcmp(out + DATA, page + DATA, TRAILER_LENGTH) == 0, "the trailer is copied");
+    for (size_t s = 0; s < SECTORS; s++)
+        check_decoding_fit(a + LUMEVIQO_DECODING_FITS + fit_at(s), call.held[FITS] + fit_at(s), unallocated, from_summary);
     if (unallocated)
         must(all_are(out, DATA, 0), "an unallocated page is zeros");
     else if (!from_summary)
@@ -470,8 +501,8 @@ static void check_replacement(const Outcome *o) {
     for (size_t k = 0; k < DATA; k++)
         must(k / SECTOR == s || o->held[SHIFTED][k] == call.held[SHIFTED][k], "the other sectors' shifted bytes stay");
     scan_anew(page);
-    must(memcmp(fresh.held[ANSWER] + LUMEVIQO_SCAN_FITS + fit_at(s), fits + fit_at(s), LUMEVIQO_FIT_LENGTH) == 0,
-         "the sector's fit is that of a fresh scan");
+    must(same_fit(fresh.held[ANSWER] + LUMEVIQO_SCAN_FITS + fit_at(s), fits + fit_at(s)), "the sector's fit is that of a fresh scan");
+    check_scanned_fit(fits + fit_at(s));
     must(memcmp(fresh.held[SHIFTED] + from, o->held[SHIFTED] + from, n) == 0, "its shifted bytes are those of a fresh scan");
     must(!call.own_summary
              || (memcmp(fresh.held[ANSWER], a, LUMEVIQO_SCAN_LENGTH) == 0 && memcmp(fresh.held[SHIFTED], o->held[SHIFTED], DATA) == 0),
@@ -553,7 +584,7 @@ static void check_accepted(const Outcome *o) {
     case INTEGRITY: break;
     case SUPERBLOCK:
     case CHECKED: check_superblock(a); break;
-    case SCAN: check_shifted(call.held[PAGE], o->held[SHIFTED], a + LUMEVIQO_SCAN_FITS, 0); break;
+    case SCAN: check_scan(o); break;
     case REPLACE: check_replacement(o); break;
     case PARSE: check_parse(a); break;
     case COUNT: check_rows(a); break;
@@ -679,12 +710,20 @@ static void write_directory(size_t count) {
         put_u16(subject.plain + at - LUMEVIQO_SLOT_LENGTH, at - 1 - below(LUMEVIQO_SLOT_LENGTH * slots));
 }
 
+/* Under each step two bytes agree at most, and two do. */
+static void tie_all_steps(uint8_t *part, size_t length) {
+    for (size_t k = 0; k < length; k++)
+        part[k] = (uint8_t)(k * (k + 1) / 2);
+}
+
 static void fill_sector(size_t s) {
     uint8_t *part = subject.plain + SECTOR * s;
     size_t n = sector_length(s), kind = below(8);
     memset(part, kind == 0 ? (int)below(256) : 0, n);
     if (kind == 1)
         noise(part, n);
+    if (one_in(64))
+        tie_all_steps(part, n);
     for (size_t k = kind == 2 || kind == 3 ? 1 + below(300) : 0; k > 0; k--) {
         uint8_t value = (uint8_t)next();
         part[below(n)] = value;
@@ -792,7 +831,7 @@ static void try_length(int function, int role, size_t length) {
         memcpy(expected, at_end.held[ANSWER], layout);
     }
     call.length[role] = length;
-    if (length == HUGE_LENGTH)
+    if (length == HUGE_LENGTH || length == FITS_WITHOUT_TIED)
         memset(call.held[role], 0, ROOM);
     try_call();
     if (function != CRC32 && decided(&value) == LUMEVIQO_ACCEPTED)
@@ -812,8 +851,10 @@ static void try_lengths(void) {
             size_t right = right_length(role), lengths[4] = {0, right - 1, right + 1, HUGE_LENGTH};
             for (size_t k = 0; k < 4; k++)
                 try_length(function, role, lengths[k]);
+            if (role == FITS)
+                try_length(function, role, FITS_WITHOUT_TIED);
         }
-    printf("lengths: %zu buffers of %d functions, each with 0, one short, one long, 2^32\n", pairs, FUNCTIONS);
+    printf("lengths: %zu buffers of %d functions, each with 0, one short, one long, 2^32; fits with %d\n", pairs, FUNCTIONS, FITS_WITHOUT_TIED);
 }
 
 #define ABOUT(n) (n) - 1, (n), (n) + 1
@@ -824,8 +865,8 @@ static size_t strange_length(size_t right) {
     case 1: return right - 1;
     case 2: return right + 1;
     case 3:
-        return ONE_OF(1, ABOUT(LUMEVIQO_ANSWER_LENGTH), ABOUT(LUMEVIQO_FITS_LENGTH), ABOUT(LUMEVIQO_LAST_SECTOR_LENGTH), ABOUT(SECTOR),
-                      ABOUT(DATA), ABOUT(WHOLE), 2 * WHOLE, ROOM);
+        return ONE_OF(1, ABOUT(LUMEVIQO_ANSWER_LENGTH), FITS_WITHOUT_TIED, ABOUT(LUMEVIQO_FITS_LENGTH), ABOUT(LUMEVIQO_LAST_SECTOR_LENGTH),
+                      ABOUT(SECTOR), ABOUT(DATA), ABOUT(WHOLE), 2 * WHOLE, ROOM);
     default: return below(ROOM + 1);
     }
 }

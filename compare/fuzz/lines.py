@@ -16,9 +16,10 @@ import zlib
 PAGE, DATA, LONGEST = 4096, 4080, 8724
 INTEGRITY = 4
 FRAME = re.compile(rb"[0-9a-fA-F]{8214,8724}\Z")
-FIT = rb"[0-9a-f]{2}0[0-2][0-9a-f]{2}0[0-2][0-9a-f]{2}0[01]"
+FIT = rb"[0-9a-f]{2}0[0-2][0-9a-f]{2}0[0-2][0-9a-f]{2}0[01]0[01][0-9a-f]{2}"
 ACCEPTED = re.compile(rb"00[0-9a-f]{16}0[1-6]0[1-5][0-9a-f]{2}(" + FIT + rb"){8}0[0-9a]\Z")
-UNALLOCATED = b"060100" + b"000000000001" * 8 + b"00"
+UNALLOCATED = b"060100" + b"0000000000010000" * 8 + b"00"
+STEPS, FITS, FIT_DIGITS = 256, 24, 16
 
 
 class Found(Exception):
@@ -66,6 +67,14 @@ def check_answer(line, answer, tally):
         must(answer[:2] in (b"05", b"06", b"07"), "a refusal is one of a decoding's", line)
     else:
         must(ACCEPTED.match(answer), "a report is well-formed", line)
+        for s in range(8):
+            check_scanned_fit(answer[FITS + FIT_DIGITS * s:][:FIT_DIGITS], line)
+
+
+def check_scanned_fit(fit, line):
+    peak, runner_up, tied = (int(fit[at:at + 4], 16) for at in (2, 6, 12))
+    must(1 <= tied <= STEPS, "in a scanned sector 1 to 256 steps tie", line)
+    must((tied > 1) == (runner_up == peak), "steps tie where the runner-up reaches the peak", line)
 
 
 # Lines
@@ -75,10 +84,12 @@ def sealed(page):
 
 
 def sector_of(rng, n):
-    """Plaintext: most often zeros, else zeros and some bytes, one other value, or random."""
+    """Plaintext: most often zeros, else zeros and some bytes, one other value, random, or one in which all steps tie."""
     kind = rng.randrange(16)
     if kind == 0:
         return bytearray(rng.randbytes(n))
+    if kind == 5:
+        return bytearray(i * (i + 1) // 2 % 256 for i in range(n))
     plain = bytearray([rng.randrange(256) if kind == 1 else 0]) * n
     for _ in range(rng.randrange(200) if 1 < kind < 5 else 0):
         plain[rng.randrange(n)] = rng.randrange(256)
