@@ -1,7 +1,7 @@
 -- A report's bytes, put one behind the other, and its line. Assumes nothing.
 use Prim.Native.Nat.{ℕ, suc, _+_, _-_, _*_, _%_, _≤_, _<_}
 use mathlib.Core.Path.{_≡_, sym, ap, ap₂, _∙_}
-use mathlib.Core.List.{List, [], _∷_, _++_, append-assoc, append-nil}
+use mathlib.Core.List.{List, [], _∷_, _++_, append-nil}
 use mathlib.Core.Bool.{true, false}
 use native.Mathlib.Omega.{arith}
 use borrow.Author.Tests.{le-leb, lt-leb}
@@ -43,84 +43,66 @@ module _ (bytes out : List ℕ) (h : length bytes + length bytes + 1 ≤ length 
       ap (λ (l : List ℕ). set l n 10) (f ∙ sym (hex-yes bytes out (omega arith) .1))
       ∙ over-push out 0 (hexed bytes) n 10 (omega (arith, line-digits n e, hexed-length bytes)) (omega (arith, line-digits n e))
 
--- a fit: six bytes
-pub fit-length : (f : Fit) → length (fitReport f) ≡ 6
+-- a fit: eight bytes
+pub fit-length : (f : Fit) → length (fitReport f) ≡ 8
 unfolding fitReport
 fit-length f =
-    simp length-append (omega (arith, big-long 2 (f .peak), big-long 2 (f .«runner_up»)))
+    simp length-append (omega (arith, big-long 2 (f .peak), big-long 2 (f .«runner_up»), big-long 2 (f .tied)))
 
-module _ (l : List ℕ) (at : ℕ) (f : Fit) (h : at + 6 ≤ length l) {a b : List ℕ} {r s : ℕ}
-    (w : Wrote (set l at (f .step)) (at + 1) (bigBytes 2 (f .peak)) a r) (v : Wrote a (at + 3) (bigBytes 2 (f .«runner_up»)) b s) where
-  abbrev peak : List ℕ
-  peak = bigBytes 2 (f .peak)
+-- a number of two bytes behind a piece
+module _ (l : List ℕ) (at : ℕ) (xs : List ℕ) (b n : ℕ) {before after : List ℕ} {r : ℕ} (e : before ≡ over l at xs) (w : Wrote before b (bigBytes 2 n) after r) where
+  number-put : b ≡ at + length xs → b + 2 ≤ length l → after ≡ over l at (xs ++ bigBytes 2 n)
+  number-put k h =
+      let two : length (bigBytes 2 n) ≡ 2 = big-long 2 n in
+      let room : length before ≡ length l = ap length e ∙ over-length l xs at (omega arith) in
+      kept-room w (omega arith) .0
+      ∙ ap (λ (x : List ℕ). over x b (bigBytes 2 n)) e
+      ∙ over-then l at xs (bigBytes 2 n) b k (omega arith)
 
-  abbrev runner : List ℕ
-  runner = bigBytes 2 (f .«runner_up»)
-
-  two-peak : length peak ≡ 2
-  two-peak = big-long 2 (f .peak)
-
-  two-runner : length runner ≡ 2
-  two-runner = big-long 2 (f .«runner_up»)
-
-  first-put : a ≡ over l at (f .step ∷ peak)
-  first-put =
-      kept-room w (omega (arith, length-set l at (f .step), two-peak)) .0
-      ∙ ap (λ (x : List ℕ). over x (at + 1) peak) (over-one l at (f .step) (omega arith))
-      ∙ over-then l at (f .step ∷ []) peak (at + 1) (omega arith) (omega (arith, two-peak))
-
-  first-room : length a ≡ length l
-  first-room = ap length first-put ∙ over-length l (f .step ∷ peak) at (omega (arith, two-peak))
-
-  second-put : b ≡ over l at ((f .step ∷ peak) ++ runner)
-  second-put =
-      kept-room v (omega (arith, first-room, two-runner)) .0
-      ∙ ap (λ (x : List ℕ). over x (at + 3) runner) first-put
-      ∙ over-then l at (f .step ∷ peak) runner (at + 3) (omega (arith, two-peak)) (omega (arith, two-runner))
-
-  five : length ((f .step ∷ peak) ++ runner) ≡ 5
-  five = length-append (f .step ∷ peak) runner ∙ omega (arith, two-peak, two-runner)
-
-  pub fit-room : length b ≡ length l
-  fit-room = ap length second-put ∙ over-length l ((f .step ∷ peak) ++ runner) at (omega (arith, five))
-
-  pub fit-put : (mark : ℕ) → mark ≡ flag (f .exact) → set b (at + 5) mark ≡ over l at (fitReport f)
-  unfolding fitReport
-  fit-put mark e =
-      ap (λ (x : List ℕ). set x (at + 5) mark) second-put
-      ∙ over-push l at ((f .step ∷ peak) ++ runner) (at + 5) mark (omega (arith, five)) (omega arith)
-      ∙ ap (over l at) (append-assoc (f .step ∷ peak) runner (mark ∷ []))
-      ∙ ap (λ (m : ℕ). over l at (f .step ∷ (peak ++ (runner ++ (m ∷ []))))) e
+module _ (l : List ℕ) (at : ℕ) (f : Fit) (h : at + 8 ≤ length l) (mark : ℕ) (e : mark ≡ flag (f .exact)) {a b c : List ℕ} {r s t : ℕ} where
+  pub fit-put : Wrote (set l at (f .step)) (at + 1) (bigBytes 2 (f .peak)) a r → Wrote a (at + 3) (bigBytes 2 (f .«runner_up»)) b s
+      → Wrote (set b (at + 5) mark) (at + 6) (bigBytes 2 (f .tied)) c t → c ≡ over l at (fitReport f)
+  unfolding fitReport bigBytes
+  fit-put w v u =
+      let one : List ℕ = f .step ∷ [] in
+      let three : List ℕ = one ++ bigBytes 2 (f .peak) in
+      let five : List ℕ = three ++ bigBytes 2 (f .«runner_up») in
+      let peak : a ≡ over l at three = number-put l at one (at + 1) (f .peak) (over-one l at (f .step) (omega arith)) w (omega arith) (omega arith) in
+      let runner : b ≡ over l at five = number-put l at three (at + 3) (f .«runner_up») peak v (omega arith) (omega arith) in
+      let exact : set b (at + 5) mark ≡ over l at (five ++ (mark ∷ [])) =
+      ap (λ (x : List ℕ). set x (at + 5) mark) runner ∙ over-push l at five (at + 5) mark (omega arith) (omega arith) in
+      number-put l at (five ++ (mark ∷ [])) (at + 6) (f .tied) exact u (omega arith) (omega arith)
+      ∙ ap (λ (m : ℕ). over l at (five ++ (m ∷ bigBytes 2 (f .tied)))) e
 
 -- the fits, one behind the other
-pub fits-more : (l : List ℕ) (at : ℕ) (fits : List Fit) (n : ℕ) → at + 6 * (n + 1) ≤ length l
-    → over (over l at (fitReports fits n)) (at + 6 * n) (fitReport (entry fits n)) ≡ over l at (fitReports fits (n + 1))
-fits-more l at fits n h = pieces-more (λ s. fitReport (entry fits s)) 6 (λ s. fit-length (entry fits s)) l at n h
+pub fits-more : (l : List ℕ) (at : ℕ) (fits : List Fit) (n : ℕ) → at + 8 * (n + 1) ≤ length l
+    → over (over l at (fitReports fits n)) (at + 8 * n) (fitReport (entry fits n)) ≡ over l at (fitReports fits (n + 1))
+fits-more l at fits n h = pieces-more (λ s. fitReport (entry fits s)) 8 (λ s. fit-length (entry fits s)) l at n h
 
 -- all that stands behind the page number of an accepted page
 module _ (d : Decoding) where
-  eight-length : length (fitReports (d .fits) 8) ≡ 48
-  eight-length = joined-length (λ s. fitReport (entry (d .fits) s)) 6 (λ s. fit-length (entry (d .fits) s)) 8
+  eight-length : length (fitReports (d .fits) 8) ≡ 64
+  eight-length = joined-length (λ s. fitReport (entry (d .fits) s)) 8 (λ s. fit-length (entry (d .fits) s)) 8
 
-  pub accepted-length : length (acceptedBytes d) ≡ 52
+  pub accepted-length : length (acceptedBytes d) ≡ 68
   unfolding acceptedBytes
   accepted-length =
       simp length-append (omega (arith, eight-length))
 
   pub accepted-put : (l : List ℕ) (source confidence warnings : ℕ) → reportMost ≤ length l
       → source ≡ sourceNumber (d .choice .source) → confidence ≡ confidenceNumber (d .choice .confidence) → warnings ≡ d .warnings .len % 256
-      → set (over (set (set (set l 9 source) 10 confidence) 11 (d .choice .bv)) 12 (fitReports (d .fits) 8)) 60 warnings ≡ over l 9 (acceptedBytes d)
+      → set (over (set (set (set l 9 source) 10 confidence) 11 (d .choice .bv)) 12 (fitReports (d .fits) 8)) 76 warnings ≡ over l 9 (acceptedBytes d)
   unfolding acceptedBytes
   accepted-put l source confidence warnings h e f g =
       let fs : List ℕ = fitReports (d .fits) 8 in
       let head : List ℕ = source ∷ confidence ∷ d .choice .bv ∷ [] in
-      let nf : length fs ≡ 48 = eight-length in
-      let n : length (head ++ fs) ≡ 51 = length-append head fs ∙ omega arith in
-      ap (λ (x : List ℕ). set (over (set (set x 10 confidence) 11 (d .choice .bv)) 12 fs) 60 warnings) (over-one l 9 source (omega arith))
-      ∙ ap (λ (x : List ℕ). set (over (set x 11 (d .choice .bv)) 12 fs) 60 warnings) (over-push l 9 (source ∷ []) 10 confidence (omega arith) (omega arith))
-      ∙ ap (λ (x : List ℕ). set (over x 12 fs) 60 warnings) (over-push l 9 (source ∷ confidence ∷ []) 11 (d .choice .bv) (omega arith) (omega arith))
-      ∙ ap (λ (x : List ℕ). set x 60 warnings) (over-then l 9 head fs 12 (omega arith) (omega arith))
-      ∙ over-push l 9 (head ++ fs) 60 warnings (omega arith) (omega arith)
+      let nf : length fs ≡ 64 = eight-length in
+      let n : length (head ++ fs) ≡ 67 = length-append head fs ∙ omega arith in
+      ap (λ (x : List ℕ). set (over (set (set x 10 confidence) 11 (d .choice .bv)) 12 fs) 76 warnings) (over-one l 9 source (omega arith))
+      ∙ ap (λ (x : List ℕ). set (over (set x 11 (d .choice .bv)) 12 fs) 76 warnings) (over-push l 9 (source ∷ []) 10 confidence (omega arith) (omega arith))
+      ∙ ap (λ (x : List ℕ). set (over x 12 fs) 76 warnings) (over-push l 9 (source ∷ confidence ∷ []) 11 (d .choice .bv) (omega arith) (omega arith))
+      ∙ ap (λ (x : List ℕ). set x 76 warnings) (over-then l 9 head fs 12 (omega arith) (omega arith))
+      ∙ over-push l 9 (head ++ fs) 76 warnings (omega arith) (omega arith)
       ∙ rw (e, f, g)
 
   module _ (number : ℕ) (l : List ℕ) (h : reportMost ≤ length l) (answer : ℕ) (e : answer ≡ numberOf (d .choice .answer)) where

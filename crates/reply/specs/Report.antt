@@ -15,14 +15,14 @@ use Rattle.verdict.specs.declared.Decoding.{Decoding}
 
 -- the longest report's bytes, and its line's characters
 abbrev pub reportMost : ℕ
-reportMost = 61
+reportMost = 77
 
 abbrev pub replyMost : ℕ
 replyMost = reportMost + reportMost + 1
 
--- "step, peak, runner-up (2 bytes each), exact"
+-- "step, peak, runner-up (2 bytes each), exact", and how many steps tied (2 bytes)
 unfoldable pub fitReport : Fit → List ℕ
-fitReport f = f .step ∷ (bigBytes 2 (f .peak) ++ (bigBytes 2 (f .«runner_up») ++ (flag (f .exact) ∷ [])))
+fitReport f = f .step ∷ (bigBytes 2 (f .peak) ++ (bigBytes 2 (f .«runner_up») ++ (flag (f .exact) ∷ bigBytes 2 (f .tied))))
 
 abbrev pub fitReports : List Fit → ℕ → List ℕ
 fitReports fits n = joined (λ s. fitReport (entry fits s)) n

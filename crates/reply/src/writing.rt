@@ -13,7 +13,7 @@ use sector::Fit;
 use verdict::Decoding;
 
 // The bytes of a fit, of a refusal and of an accepted page, and the characters of the longest line.
-const FIT: usize = 6;
+const FIT: usize = 8;
 
 const REFUSAL: usize = 9;
 
@@ -53,11 +53,11 @@ fn put_accepted(d: Decoding, bytes: &mut [u8])
     bytes[10] = confidence.number();
     bytes[11] = choice.bv;
     put_fits(fits, bytes, 12);
-    bytes[60] = low(warnings.len);
+    bytes[76] = low(warnings.len);
 }
 
 fn put_fits(fits: [Fit; 8], bytes: &mut [u8], at: usize)
-    requires { ⌜ at + 48 ≤ length (now bytes) ⌝ }
+    requires { ⌜ at + 64 ≤ length (now bytes) ⌝ }
     ensures { λ _. ⌜ now (bytes .exit) ≡ over (now (bytes .entry)) at (fitReports fits 8) ⌝ }
 {
     let mut s: usize = 0;
@@ -69,13 +69,14 @@ fn put_fits(fits: [Fit; 8], bytes: &mut [u8], at: usize)
 }
 
 fn put_fit(f: Fit, bytes: &mut [u8], at: usize)
-    requires { ⌜ at + 6 ≤ length (now bytes) ⌝ }
+    requires { ⌜ at + 8 ≤ length (now bytes) ⌝ }
     ensures { λ _. ⌜ now (bytes .exit) ≡ over (now (bytes .entry)) at (fitReport f) ⌝ }
 {
     bytes[at] = f.step;
     put_big_u16(bytes, at + 1, f.peak);
     put_big_u16(bytes, at + 3, f.runner_up);
     bytes[at + 5] = bit(f.exact);
+    put_big_u16(bytes, at + 6, f.tied);
 }
 
 // The digits of bytes and a newline, into the front of `out`, and their number.

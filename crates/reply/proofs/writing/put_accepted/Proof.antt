@@ -23,7 +23,7 @@ returns c =
     let a = c .before .before .before .before .before .before .before .before .before .before .before .args in
     let s = c .before .before .before .before .before .before .number in
     let k = c .before .before .before .before .before .number2 in
-    ap (λ (w : List ℕ). set w 60 (c .low .result)) (c .before .before .before .put-fits .ensures)
+    ap (λ (w : List ℕ). set w 76 (c .low .result)) (c .before .before .before .put-fits .ensures)
     ∙ accepted-put (a .d) (a .bytes .now) (s .result) (k .result) (c .low .result) (search needs) (s .ensures) (k .ensures) (c .low .ensures)
 
 pub put-accepted-spec : {M : Type 1} → statement M

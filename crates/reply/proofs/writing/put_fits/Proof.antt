@@ -31,7 +31,7 @@ loop-again c =
     let n = l .inv .1 in (
       omega arith,
       p .kept .1 .0 ∙ n,
-      p .ensures ∙ ap (λ (w : List ℕ). over w (a .at + 6 * l .s) (fitReport (entry (a .t1) (l .s)))) (l .inv .2) ∙ fits-more (a .bytes .now) (a .at) (a .t1) (l .s) (omega arith),
+      p .ensures ∙ ap (λ (w : List ℕ). over w (a .at + 8 * l .s) (fitReport (entry (a .t1) (l .s)))) (l .inv .2) ∙ fits-more (a .bytes .now) (a .at) (a .t1) (l .s) (omega arith),
     )
 
 returns : tie.Need-returns Inv-loop μ-loop
