@@ -61,7 +61,8 @@ extern "C" {
 #define LUMEVIQO_VALUE_LENGTH 8
 
 /* Fit, of one sector. `tied` is 0 where no sector was scanned: in a refused scan or decoding, and in the decoding of an unallocated
-   page. Nothing reads it. A decoding from a summary has all but the flag as lent, whatever the numbers, and makes the flag anew. */
+   page. Nothing reads it. Where a decoding from a summary is accepted and the page is not unallocated, all but the flag is as lent,
+   whatever the numbers, and the flag is made anew. */
 #define LUMEVIQO_FIT_STEP 0           /* u8 */
 #define LUMEVIQO_FIT_PEAK 1           /* u16 */
 #define LUMEVIQO_FIT_RUNNER_UP 3      /* u16 */

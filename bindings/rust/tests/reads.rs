@@ -10,7 +10,7 @@ fn zero_data() -> [u8; PAGE] {
     page
 }
 
-/// The fit of a sector that was not scanned, on a page that has nothing to scan.
+/// Each fit in the decoding of an unallocated page.
 const UNALLOCATED: Fit = Fit { step: 0, peak: 0, runner_up: 0, exact: true, tied: 0 };
 
 /// Row count 5, its prelude at 0x40, slots at 0x44.

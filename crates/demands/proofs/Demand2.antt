@@ -20,7 +20,7 @@ use Rattle.sector.specs.Byte.{offsetOf, shiftedOf}
 use Rattle.sector.specs.Fit.{modalAt, fitOf, sectorOf}
 use Rattle.sector.specs.Scan.{blankFit}
 use Rattle.sector.specs.declared.fits.Fit.{Fit}
-use Rattle.sector.proofs.Meaning.{fit-step, fit-here, fit-most, fit-first, fit-runner, fit-exact, fit-tied, tied-range, tied-above, above-tied}
+use Rattle.sector.proofs.Meaning.{fit-step, fit-here, fit-most, fit-first, fit-runner, fit-exact, fit-tied, tied-range, tied-runner, runner-tied}
 use Rattle.page.specs.Trailer.{rowCount}
 use Rattle.page.specs.Integrity.{isUnallocated}
 use Rattle.summary.specs.Page.{sectorEnd, part, fitAt, fitsOf, bytesOf}
@@ -59,9 +59,9 @@ best-fit offset l =
       runner = sym (fit-runner offset l);
       exact = fit-exact offset l;
       tied = fit-tied offset l;
-      range = tied-range offset l;
-      above = tied-above offset l;
-      equals = above-tied offset l;
+      tied-range = tied-range offset l;
+      tied-runner = tied-runner offset l;
+      runner-tied = runner-tied offset l;
     }
 
 module _

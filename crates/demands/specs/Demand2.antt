@@ -45,8 +45,8 @@ abbrev pub leftIn : List ℕ → ℕ → List ℕ → Decoding → List ℕ
 leftIn out number stored d = writtenOf d stored (bytesOf number stored) out
 
 -- the fit of sector bytes l at an offset: its step is the smallest of those with the largest modal count, its peak is that count, its
--- runner-up the second of the 256 counts, sorted; it is exact where the shifted bytes are all equal. "The number of steps that reach the peak, 1 to
--- 256", is "above 1 exactly when runner-up equals peak" (document 02, #106)
+-- runner-up the second of the 256 counts, sorted; it is exact where the shifted bytes are all equal; tied is "the number of steps that reach the peak,
+-- 1 to 256", and "above 1 exactly when runner-up equals peak" (document 02, #106)
 pub record BestFit (offset : ℕ) (l : List ℕ) (f : Fit) : Type 0 where
   pub byte : f .step < 256
   pub most : (k : ℕ) → k < 256 → modalAt offset l k ≤ modalAt offset l (f .step)
@@ -55,9 +55,9 @@ pub record BestFit (offset : ℕ) (l : List ℕ) (f : Fit) : Type 0 where
   pub runner : f .«runner_up» ≡ getD (sortedDown (each (modalAt offset l) 256)) 1 0
   pub exact : f .exact ≡ allSame (shiftedList offset (f .step) l)
   pub tied : f .tied ≡ howMany (λ k. eqb (modalAt offset l k) (f .peak)) 256
-  pub range : (1 ≤ f .tied) × (f .tied ≤ 256)
-  pub above : 1 < f .tied → f .«runner_up» ≡ f .peak
-  pub equals : f .«runner_up» ≡ f .peak → 1 < f .tied
+  pub tied-range : (1 ≤ f .tied) × (f .tied ≤ 256)
+  pub tied-runner : 1 < f .tied → f .«runner_up» ≡ f .peak
+  pub runner-tied : f .«runner_up» ≡ f .peak → 1 < f .tied
 
 -- a decoding d of a stored page, and what it wrote
 pub record Recovered (number : ℕ) (stored : List ℕ) (d : Decoding) (written : List ℕ) : Type 0 where

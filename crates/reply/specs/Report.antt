@@ -20,7 +20,7 @@ reportMost = 77
 abbrev pub replyMost : ℕ
 replyMost = reportMost + reportMost + 1
 
--- "step, peak, runner-up (2 bytes each), exact", and how many steps tied (2 bytes)
+-- "step, peak, runner-up (2 bytes each), exact"; document 02, #106: "two bytes after each exact mark", how many steps tied
 unfoldable pub fitReport : Fit → List ℕ
 fitReport f = f .step ∷ (bigBytes 2 (f .peak) ++ (bigBytes 2 (f .«runner_up») ++ (flag (f .exact) ∷ bigBytes 2 (f .tied))))
 

@@ -5,7 +5,7 @@ use mathlib.Core.List.{List, [], _∷_}
 use mathlib.Core.Bool.{Bool, true, false}
 use native.Mathlib.Decide.{ℕ-discrete}
 use native.Mathlib.Omega.{arith}
-use borrow.Author.Tests.{eq-eqb, ne-eqb}
+use borrow.Author.Tests.{eq-eqb, ne-eqb, eqb-true}
 use lib.Dec.{eqb}
 use lib.ListN.{length}
 use Rattle.lists.specs.Counts.{count, allAre, allSame}
@@ -13,7 +13,7 @@ use Rattle.lists.proofs.Count.{count-le, count-here, count-there}
 use Rattle.lists.proofs.Greatest.{greatest-above, greatest-below}
 use Rattle.lists.proofs.Same.{are-count, not-count}
 use Rattle.sector.specs.Byte.{shiftedOf}
-use Rattle.sector.specs.Fit.{shiftFrom, shiftedList, modalOf}
+use Rattle.sector.specs.Fit.{shiftFrom, shiftedList, modalOf, modalAt}
 use Rattle.sector.proofs.Bytes.{shifted-byte}
 
 pub modal-le : (l : List ℕ) → modalOf l ≤ length l
@@ -46,3 +46,10 @@ pub exact-shifted : (o k : ℕ) (l : List ℕ) → eqb (modalOf (shiftedList o k
 unfolding shiftFrom
 exact-shifted o k [] = exact-none
 exact-shifted o k (b ∷ l) = exact-cons (shiftedOf b o 0 k) (shiftFrom o k 1 l) (shifted-byte b o 0 k)
+
+-- of a sector of at most one byte all bytes agree, whatever the step
+pub modal-short : (o k : ℕ) (l : List ℕ) → length l ≤ 1 → modalAt o l k ≡ length l
+unfolding modalAt shiftFrom allSame allAre
+modal-short o k [] h = eqb-true (modalOf []) 0 exact-none
+modal-short o k (b ∷ []) h = eqb-true (modalOf (shiftedOf b o 0 k ∷ [])) 1 (exact-shifted o k (b ∷ []))
+modal-short o k (b ∷ c ∷ l) h = absurd (omega arith)

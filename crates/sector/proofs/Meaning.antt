@@ -5,7 +5,7 @@ use mathlib.Core.Bool.{Bool, true, false}
 use mathlib.Core.List.{List, [], _∷_, map}
 use native.Mathlib.Omega.{arith}
 use lib.Dec.{eqb}
-use lib.ListN.{getD}
+use lib.ListN.{length, getD}
 use Rattle.lists.specs.Counts.{howMany, allSame}
 use Rattle.lists.specs.Pieces.{each}
 use Rattle.lists.proofs.Greatest.{greatest-above}
@@ -14,7 +14,8 @@ use Rattle.sector.specs.Fit.{modalAt, ties, fitOf, sectorOf, confidentOf
 use Rattle.sector.specs.declared.fits.Fit.{Fit}
 use Rattle.sector.specs.Sorted.{sortedDown}
 use Rattle.sector.proofs.Sorted.{sorted-first, sorted-next, top-within, top-here, top-first}
-use Rattle.sector.proofs.Ties.{ties-some, ties-le, ties-second, second-ties}
+use Rattle.sector.proofs.Ties.{ties-some, ties-le, ties-all, ties-second, second-ties}
+use Rattle.sector.proofs.Exact.{modal-short}
 
 -- THE FIT of a sector of any length: its step is a byte, and has the peak as its count; no step has a greater count, and every smaller step
 -- a lesser one; of the 256 counts sorted, the peak is the first and the runner-up the second; it is exact where all its shifted bytes are equal
@@ -43,7 +44,8 @@ module _ (o : ℕ) (l : List ℕ) where
   unfolding fitOf
   fit-runner = sorted-next (modalAt o l) 256 (omega arith)
 
-  -- TIES: how many of the 256 steps have the peak as their count. From 1 to 256, and above 1 exactly where the runner-up equals the peak
+  -- document 02, #106: how many of the 256 steps have the peak as their count. From 1 to 256, and above 1 exactly where the runner-up equals the peak; an
+  -- empty sector and one of one byte have 256
   pub fit-tied : fitOf o l .tied ≡ howMany (λ k. eqb (modalAt o l k) (fitOf o l .peak)) 256
   unfolding fitOf ties
   fit-tied = refl
@@ -52,13 +54,17 @@ module _ (o : ℕ) (l : List ℕ) where
   unfolding fitOf
   tied-range = (ties-some (modalAt o l) 256 (omega arith), ties-le (modalAt o l) 256)
 
-  pub tied-above : 1 < fitOf o l .tied → fitOf o l .«runner_up» ≡ fitOf o l .peak
+  pub tied-runner : 1 < fitOf o l .tied → fitOf o l .«runner_up» ≡ fitOf o l .peak
   unfolding fitOf
-  tied-above h = ties-second (modalAt o l) 256 (omega arith) h
+  tied-runner h = ties-second (modalAt o l) 256 (omega arith) h
 
-  pub above-tied : fitOf o l .«runner_up» ≡ fitOf o l .peak → 1 < fitOf o l .tied
+  pub runner-tied : fitOf o l .«runner_up» ≡ fitOf o l .peak → 1 < fitOf o l .tied
   unfolding fitOf
-  above-tied e = second-ties (modalAt o l) 256 (omega arith) e
+  runner-tied e = second-ties (modalAt o l) 256 (omega arith) e
+
+  pub short-tied : length l ≤ 1 → fitOf o l .tied ≡ 256
+  unfolding fitOf
+  short-tied h = ties-all (modalAt o l) 256 (length l) (λ k q. modal-short o k l h)
 
   pub fit-exact : fitOf o l .exact ≡ allSame (sectorOf o l)
   unfolding fitOf sectorOf

@@ -8,7 +8,7 @@ use borrow.Author.Tests.{eq-eqb, ne-eqb}
 use lib.Dec.{eqb}
 use Rattle.lists.specs.Counts.{greatest, howMany}
 use Rattle.lists.proofs.Greatest.{greatest-none, greatest-above, greatest-below, greatest-up, greatest-same}
-use Rattle.lists.proofs.Many.{many-none, many-yes, many-no, many-zero, many-le, many-some, many-two, many-one}
+use Rattle.lists.proofs.Many.{many-none, many-yes, many-no, many-zero, many-le, many-all, many-some, many-two, many-one}
 use Rattle.sector.specs.Fit.{topPlace, second, butAt, ties}
 use Rattle.sector.proofs.Leads.{but-here, but-there}
 use Rattle.sector.proofs.Sorted.{top-within, top-here}
@@ -67,6 +67,13 @@ module _ (f : ℕ → ℕ) (n : ℕ) where
   pub ties-le : ties f n ≤ n
   unfolding ties
   ties-le = many-le (λ k. eqb (f k) (greatest f n)) n
+
+  -- where all are equal, all tie
+  pub ties-all : (x : ℕ) → ((k : ℕ) → k < n → f k ≡ x) → ties f n ≡ n
+  unfolding ties
+  ties-all x same =
+      many-all (λ k. eqb (f k) (greatest f n)) n
+      (λ k l. eq-eqb (f k) (greatest f n) (omega (arith, same k l, greatest-above f n k l, greatest-below f n x (λ j h. omega (arith, same j h)))))
 
   second-le : second f n ≤ greatest f n
   unfolding second

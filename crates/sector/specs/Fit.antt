@@ -1,4 +1,4 @@
--- Document 01, "Offsets, steps, fits": the fit of a sector of any length. Assumes nothing.
+-- Document 01, "Offsets, steps, fits", and document 02, #106: the fit of a sector of any length. Assumes nothing.
 use Prim.Native.Nat.{ℕ, suc, _+_}
 use mathlib.Core.Bool.{Bool, true, false}
 use mathlib.Core.List.{List, [], _∷_}
@@ -35,7 +35,7 @@ butAt f place k = pick (eqb k place) 0 (f k)
 unfoldable pub second : (ℕ → ℕ) → ℕ → ℕ
 second f n = greatest (butAt f (topPlace f n)) n
 
--- how many of them are the greatest
+-- how many of f 0, .., f (n - 1) are the greatest
 unfoldable pub ties : (ℕ → ℕ) → ℕ → ℕ
 ties f n = howMany (λ k. eqb (f k) (greatest f n)) n
 
@@ -62,7 +62,7 @@ fitOf offset bytes =
     let f : ℕ → ℕ = modalAt offset bytes in
     fitFrom f (allSame (shiftedList offset (stepOf f) bytes))
 
--- the fit that a table of modal counts gives, of a sector of n bytes: exact where n of them agree
+-- the fit that a table of modal counts gives, of a sector of n bytes: exact where the peak is n
 unfoldable pub tableFit : List ℕ → ℕ → Fit
 tableFit counts n =
     let f : ℕ → ℕ = λ k. getD counts k 0 in

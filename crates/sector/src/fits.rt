@@ -4,7 +4,7 @@ ghost use Rattle.sector.specs.Fit.{confidentOf};
 ghost use Rattle.sector.specs.Scan.{blankFit, blankFits};
 
 // The step of a sector, the bytes that agree under it, the bytes that agree under the next best, whether all agree, and how many of the
-// 256 steps do as well.
+// 256 steps reach that peak.
 pub struct Fit {
     pub step: u8,
     pub peak: u16,

@@ -5,7 +5,7 @@ use crate::fits::Fit;
 use numbers::long;
 use numbers::long16;
 
-// The fit of a sector of `n` bytes. A step that leads begins the count of ties; one that reaches it comes second, and is counted.
+// The fit of a sector of `n` bytes. A greater count begins the number of tied steps anew; an equal one adds to it, and is the runner-up.
 pub fn table_fit(counts: [u16; 256], n: usize) -> Fit
     ensures { λ r. ⌜ r ≡ tableFit counts n ⌝ }
 {

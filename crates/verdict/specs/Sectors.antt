@@ -17,7 +17,7 @@ use Rattle.answers.specs.declared.notices.Warnings.{Warnings}
 abbrev pub entry : List Fit → ℕ → Fit
 entry fits s = getD fits s blankFit
 
--- "exactness and votes from the shifted bytes, steps, peaks and runner-ups from the fits", and as runner-ups so ties
+-- "exactness and votes from the shifted bytes, steps, peaks and runner-ups from the fits", and tied, as the runner-ups
 abbrev pub refitAt : List Fit → List ℕ → ℕ → Fit
 refitAt fits shifted s =
     record {
@@ -31,7 +31,7 @@ refitAt fits shifted s =
 unfoldable pub refitOf : List Fit → List ℕ → List Fit
 refitOf fits shifted = each (refitAt fits shifted) 8
 
--- "eight fits of 0, 0, 0, exact", and no ties
+-- "eight fits of 0, 0, 0, exact", and tied 0
 abbrev pub unallocatedFits : List Fit
 unallocatedFits = replicate 8 (record { step = 0; peak = 0; «runner_up» = 0; exact = true; tied = 0 })
 

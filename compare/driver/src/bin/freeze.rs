@@ -1,5 +1,5 @@
 //! freeze SEED FOLDER: the questions and answers of the program `frozen`, as FOLDER/stdin and FOLDER/stdout, all from the original; where it
-//! has no counterpart (lengths of lent buffers, replacement, row numbers) from document 01. A question is taken where it shows something that
+//! has no counterpart (lengths of lent buffers, replacement, row numbers) from document 01, and tied steps from the count behind its ap.rs. A question is taken where it shows something that
 //! none before it does: a function's answer or reason, a source with its confidence, a row of evidence, a kind of warning, a type of page; and,
 //! on pages that are made for it, how many steps tied.
 use std::collections::BTreeSet;
