@@ -7,13 +7,13 @@ use native.Mathlib.Omega.{arith}
 use lib.Dec.{eqb}
 use lib.ListN.{length, getD}
 use Rattle.lists.specs.Cases.{pick}
-use Rattle.lists.specs.Counts.{greatest, howMany, least, allSame}
+use Rattle.lists.specs.Counts.{allSame}
 use Rattle.lists.specs.Pieces.{each}
 use Rattle.lists.proofs.Each.{each-at}
 use Rattle.lists.proofs.Greatest.{greatest-ext}
 use Rattle.lists.proofs.Least.{least-ext}
 use Rattle.lists.proofs.Many.{many-ext}
-use Rattle.sector.specs.Fit.{shiftedList, modalOf, modalAt, topPlace, butAt, second, ties, stepOf, peakOf, fitFrom, fitOf, tableFit}
+use Rattle.sector.specs.Fit.{shiftedList, modalOf, modalAt, topPlace, second, ties, stepOf, peakOf, fitFrom, fitOf, tableFit}
 use Rattle.sector.specs.declared.fits.Fit.{Fit}
 use Rattle.sector.proofs.Shifts.{shift-length}
 use Rattle.sector.proofs.Sorted.{top-here}

@@ -43,12 +43,20 @@ loop-again c =
     (λ w. (
       omega arith,
       leads-as f (k + 1) (w .3) (w .4) refl (stay (c .if1 .runner-up) (omega (arith, w .0 .left)) (omega (arith, w .5, w .2 .taken))),
-      tied-as f (k + 1) (w .4) (w .6) (⊎-elim (λ v. tied-as f (k + 1) refl (v .1) (more (v .0 .taken))) (λ v. tied-as f (k + 1) refl (v .1) (same (omega (arith, w .0 .left, v .0 .left)))) (w .1 .came)),
+      tied-as f (k + 1) (w .4) (w .6)
+          (⊎-elim
+          (λ v. tied-as f (k + 1) refl (v .1) (more (v .0 .taken)))
+          (λ v. tied-as f (k + 1) refl (v .1) (same (omega (arith, w .0 .left, v .0 .left))))
+          (w .1 .came)),
     ))
     (λ w. (
       omega arith,
       leads-as f (k + 1) (w .3) (w .4) refl (stay (c .if1 .runner-up) (omega (arith, w .0 .left)) (omega (arith, w .5, w .2 .left))),
-      tied-as f (k + 1) (w .4) (w .6) (⊎-elim (λ v. tied-as f (k + 1) refl (v .1) (more (v .0 .taken))) (λ v. tied-as f (k + 1) refl (v .1) (same (omega (arith, w .0 .left, v .0 .left)))) (w .1 .came)),
+      tied-as f (k + 1) (w .4) (w .6)
+          (⊎-elim
+          (λ v. tied-as f (k + 1) refl (v .1) (more (v .0 .taken)))
+          (λ v. tied-as f (k + 1) refl (v .1) (same (omega (arith, w .0 .left, v .0 .left))))
+          (w .1 .came)),
     )))
     (c .if1 .came)
 
