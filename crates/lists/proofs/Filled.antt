@@ -1,13 +1,13 @@
 -- Laws of a buffer that a loop fills, place after place. Assumes nothing.
-use Prim.Native.Nat.{ℕ, _+_, _-_, _≤_, _<_}
+use Prim.Native.Nat.{ℕ, _+_, _-_, _≤_, _<_, zero-le}
 use mathlib.Core.Path.{_≡_, sym, ap, ap₂, _∙_}
 use mathlib.Core.List.{List, [], _∷_, _++_, append-nil}
 use native.Mathlib.Numerals.{add-one}
 use native.Mathlib.Omega.{arith}
-use lib.ListN.{length, getD, set, take, drop, length-drop, drop-of-length-le}
+use lib.ListN.{length, getD, set, take, drop, length-set, length-drop, drop-of-length-le}
 use lib.Seq.{take-suc, take-suc-set, take-all, take-at, length-take-le}
 use Rattle.lists.specs.Pieces.{each, over}
-use Rattle.lists.proofs.Each.{each-length, each-more}
+use Rattle.lists.proofs.Each.{each-none, each-length, each-more}
 use Rattle.lists.proofs.Over.{over-none, over-push}
 
 -- ---- the first i places hold what they should
@@ -21,6 +21,33 @@ module _ {A : Type 0} (out : List A) where
 
 pub take-more : {A : Type 0} (l : List A) (d : A) (i : ℕ) → i < length l → take i l ++ (getD l i d ∷ []) ≡ take (i + 1) l
 take-more l d i h = sym (ap (λ (n : ℕ). take n l) (add-one i) ∙ take-suc l i d h)
+
+-- ---- a table that is filled with f 0, f 1 and so on: the first i places hold them
+
+pub record Filled {A : Type 0} (f : ℕ → A) (n i : ℕ) (table : List A) : Type 0 where
+  pub within : i ≤ n
+  pub room : length table ≡ n
+  pub front : take i table ≡ each f i
+
+module _ {A : Type 0} (f : ℕ → A) (n : ℕ) (table : List A) where
+  pub filled-none : length table ≡ n → Filled f n 0 table
+  filled-none h = record { within = zero-le; room = h; front = sym (each-none f) }
+
+  pub filled-more : (i : ℕ) (x : A) → Filled f n i table → i < n → x ≡ f i → Filled f n (i + 1) (set table i x)
+  filled-more i x t h e =
+      record {
+        within = omega arith;
+        room = length-set table i x ∙ t .room;
+        front =
+            write-more table (each f i) i x (omega (arith, t .room)) (t .front)
+            ∙ ap (λ (y : A). each f i ++ (y ∷ [])) e
+            ∙ sym (each-more f i);
+      }
+
+  pub filled-all : (i : ℕ) → Filled f n i table → n ≤ i → table ≡ each f n
+  filled-all i t h =
+      let e : i ≡ n = omega (arith, t .within) in
+      write-all table (each f i) i (omega (arith, t .room)) (t .front) ∙ ap (each f) e
 
 -- ---- a list put at a place, element after element
 
