@@ -35,7 +35,7 @@ module _ (f g : ℕ → ℕ) (n : ℕ) (same : (k : ℕ) → k < n → f k ≡ g
   unfolding ties
   ties-ext = many-ext _ _ n (λ k h. ap₂ eqb (same k h) (greatest-ext f g n same))
 
-pub fit-ext : (f g : ℕ → ℕ) (exact exact' : Bool) → ((k : ℕ) → k < 256 → f k ≡ g k) → exact ≡ exact' → fitFrom f exact ≡ fitFrom g exact'
+fit-ext : (f g : ℕ → ℕ) (exact exact' : Bool) → ((k : ℕ) → k < 256 → f k ≡ g k) → exact ≡ exact' → fitFrom f exact ≡ fitFrom g exact'
 fit-ext f g exact exact' same e =
     λ i. record {
       step = top-ext f g 256 same i;

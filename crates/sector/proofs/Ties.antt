@@ -7,11 +7,12 @@ use native.Mathlib.Omega.{arith}
 use borrow.Author.Tests.{eq-eqb, ne-eqb}
 use lib.Dec.{eqb}
 use Rattle.lists.specs.Counts.{greatest, howMany}
+use Rattle.lists.specs.Pieces.{each}
 use Rattle.lists.proofs.Greatest.{greatest-none, greatest-above, greatest-below, greatest-up, greatest-same}
 use Rattle.lists.proofs.Many.{many-none, many-yes, many-no, many-zero, many-le, many-all, many-some, many-two, many-one}
 use Rattle.sector.specs.Fit.{topPlace, second, butAt, ties}
 use Rattle.sector.proofs.Leads.{but-here, but-there}
-use Rattle.sector.proofs.Sorted.{top-within, top-here}
+use Rattle.sector.proofs.Sorted.{sorted-falls, sorted-first, sorted-next, top-within, top-here}
 
 -- after n numbers the greatest is `most`, and `tied` of them are it
 pub record Tied (f : ℕ → ℕ) (n most tied : ℕ) : Type 0 where
@@ -75,13 +76,8 @@ module _ (f : ℕ → ℕ) (n : ℕ) where
       many-all (λ k. eqb (f k) (greatest f n)) n
       (λ k l. eq-eqb (f k) (greatest f n) (omega (arith, same k l, greatest-above f n k l, greatest-below f n x (λ j h. omega (arith, same j h)))))
 
-  second-le : second f n ≤ greatest f n
-  unfolding second
-  second-le = greatest-below (butAt f (topPlace f n)) n (greatest f n) (λ k h. omega (arith, but-le k (ℕ-discrete k (topPlace f n)), greatest-above f n k h))
-    where
-      but-le : (k : ℕ) → Dec (k ≡ topPlace f n) → butAt f (topPlace f n) k ≤ f k
-      but-le k (yes e) = let z : butAt f (topPlace f n) k ≡ 0 = ap (butAt f (topPlace f n)) e ∙ but-here f (topPlace f n) in omega arith
-      but-le k (no ne) = omega (arith, but-there f (topPlace f n) k ne)
+  second-le : 0 < n → second f n ≤ greatest f n
+  second-le h = omega (arith, sorted-falls (each f n) .at 0, sorted-first f n, sorted-next f n h)
 
   -- alone at the top: every other number is at most the second, and so less
   alone : 0 < n → second f n < greatest f n → ties f n ≤ 1
@@ -95,7 +91,7 @@ module _ (f : ℕ → ℕ) (n : ℕ) where
     where
       go : Dec (second f n < greatest f n) → second f n ≡ greatest f n
       go (yes less) = omega (arith, alone h less)
-      go (no no-less) = omega (arith, second-le)
+      go (no no-less) = omega (arith, second-le h)
 
   -- two places that have the greatest
   both : (i j : ℕ) → i < n → j < n → (i ≡ j → ⊥) → f i ≡ greatest f n → f j ≡ greatest f n → 1 < ties f n
