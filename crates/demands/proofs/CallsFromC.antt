@@ -30,16 +30,14 @@ use Rattle.slots.specs.Slots.{searchLimit}
 use Rattle.slotted.specs.Parses.{parsedOf}
 use Rattle.slotted.specs.declared.directories.Parsed.{Parsed}
 use Rattle.rows.specs.Rows.{startOf, endOf}
-use Rattle.rows.specs.RowAnswers.{startsOf}
 use Rattle.rows.specs.declared.spans.Span.{Span}
-use Rattle.rows.specs.declared.starts.Starts.{Starts}
 use Rattle.verdict.specs.declared.Decoding.{Decoding}
 use Rattle.decode.specs.Decode.{writtenOf}
 use Rattle.numbers.specs.Numbers.{littleBytes}
 use Rattle.numbers.specs.Writes.{Wrote}
 use Rattle.numbers.proofs.Kept.{kept-short, kept-room, kept-behind}
 use Rattle.fields.specs.Fields.{Field, little, fieldBytes, sizeOf, layoutBytes}
-use Rattle.fields.proofs.Sizes.{fields-long, size-append}
+use Rattle.fields.proofs.Sizes.{fields-long, size-append, layout-append}
 use Rattle.parts.specs.Parts.{answerSize, answerFields, fitsFields, warningsFields}
 use Rattle.parts.specs.Lent.{isLent, fitsIn}
 use Rattle.parts.proofs.Sizes.{answer-size}
@@ -47,16 +45,11 @@ use Rattle.layout.specs.Layouts.{recordFields, trailerFields, trailerSize, head
 use Rattle.layout.specs.Layouts.{summaryFields, scanSize, choiceFields, decodingFields, decodingSize}
 use Rattle.layout.proofs.Sizes.{trailer-size, superblock-size, summary-size, decoding-size}
 use Rattle.row_layout.specs.RowLayouts.{directoryFields, slotsFields, parseFields, parseSize, rowCountFields, rowCountSize, rowFields, rowSize}
-use Rattle.row_layout.specs.RowLayouts.{rowsFields, rowsSize}
+use Rattle.row_layout.specs.RowLayouts.{listFields, rowsFields, rowsSize}
 use Rattle.row_layout.proofs.Sizes.{parse-size, row-count-size, row-size, rows-size}
 use Rattle.lumeviqo.specs.Calls.{hasRoom, toldIf, ScanCall, ReplaceCall, DecodingCall}
 use Rattle.demands.specs.CallsFromC.{ToldInC, Keeps, CallsAnswered}
 use Rattle.demands.proofs.Demand1.{refusals-silent}
-
-layout-append : (fs gs : List Field) → layoutBytes (fs ++ gs) ≡ layoutBytes fs ++ layoutBytes gs
-unfolding layoutBytes
-layout-append [] gs = refl
-layout-append (f ∷ fs) gs = ap (λ (l : List ℕ). fieldBytes f ++ l) (layout-append fs gs) ∙ sym (append-assoc (fieldBytes f) (layoutBytes fs) (layoutBytes gs))
 
 number-small : (x : Answer) → numberOf x < 256
 number-small answer.Accepted = omega arith
@@ -191,14 +184,9 @@ row-starts : (x : Answer) (s : Span) → StartsWith rowSize x (rowFields x s)
 unfolding rowFields
 row-starts x s = record { rest = little 2 (startOf s) ∷ little 2 (endOf s) ∷ []; front = refl; size = row-size x s }
 
-rows-starts : (s : Starts) → StartsWith rowsSize (s .answer) (rowsFields s)
+rows-starts : (x : Answer) (rows : List ℕ) → StartsWith rowsSize x (rowsFields x rows)
 unfolding rowsFields
-rows-starts s =
-    record {
-      rest = (little 2 (s .len) ∷ []) ++ slotsFields (s .items);
-      front = append-assoc (answerFields (s .answer)) (little 2 (s .len) ∷ []) (slotsFields (s .items));
-      size = rows-size s;
-    }
+rows-starts x rows = record { rest = listFields rows; front = refl; size = rows-size x rows }
 
 -- the other buffers
 
@@ -265,5 +253,5 @@ calls-answered =
       parse = λ number plain leniency. tells-lent (parse-starts (parsedOf searchLimit number plain (hasDirectory leniency)));
       row-count = λ number plain leniency. tells-lent (row-count-starts _ _);
       row = λ number plain leniency k. tells-lent (row-starts _ _);
-      rows = λ number plain leniency. tells-lent (rows-starts (startsOf searchLimit number plain (hasDirectory leniency)));
+      rows = λ number plain leniency. tells-lent (rows-starts _ _);
     }

@@ -8,8 +8,10 @@ use borrow.Author.Tests.{eq-eqb}
 use denote.Ref.{RefT, now}
 use lib.Dec.{eqb, ltb}
 use lib.ListN.{length}
+use lib.Seq.{take-nil}
 use Rattle.lists.specs.Cases.{pick}
-use Rattle.lists.specs.Pieces.{each, keep}
+use Rattle.lists.specs.Pieces.{each, keep, over}
+use Rattle.lists.proofs.Over.{over-none}
 use Rattle.lists.proofs.Booleans.{not-back}
 use Rattle.lists.proofs.Picks.{pick-case, never-both}
 use Rattle.answers.specs.Answers.{isAccepted}
@@ -28,11 +30,12 @@ use Rattle.page.specs.declared.superblocks.SuperblockAnswer.{SuperblockAnswer}
 use Rattle.sector.specs.Scan.{blankFits}
 use Rattle.summary.specs.Page.{sectorEnd, checked, pageScanOf, scanned}
 use Rattle.summary.specs.Replace.{replaced, storedAfter, shiftedAfter}
-use Rattle.slotted.specs.Decisions.{answerOf, decisionOf}
+use Rattle.slotted.specs.Decisions.{answerOf, verdictRefused, decisionOf}
+use Rattle.slotted.specs.Locations.{givenOf, locatedOf}
 use Rattle.slotted.specs.Parses.{parsedOf}
 use Rattle.slotted.specs.declared.verdicts.Decided.{Decided}
 use Rattle.rows.specs.Rows.{ascending, rowsAt, rowIn, IsPart}
-use Rattle.rows.specs.RowAnswers.{rowsIn, rowsOf, rowOf, spanAnswer, rowAnswerOf, rowsCountedOf, startsBy, startsOf}
+use Rattle.rows.specs.RowAnswers.{rowsIn, rowsOf, rowOf, spanAnswer, rowAnswerOf, rowsCountedOf, startsIn}
 use Rattle.rows.specs.declared.spans.Span.{Span}
 use Rattle.rows.specs.declared.spans.Span.the-variants.{At, NoRow}
 use Rattle.rows.proofs.RowAnswers.{no-rows}
@@ -46,7 +49,7 @@ use Rattle.verdict.specs.Verdict.{refusal, integrityRefuses, settledOf, verdict
 use Rattle.decode.specs.Decode.{decodingOf, suppliedDecodingOf, writtenOf}
 use Rattle.demands.specs.Told.{Line, valuesAt, OneOf, lengthLines, integrityLines, magicLines, scanLines, replacementLines, parseLines, rowLines}
 use Rattle.demands.specs.Told.{choiceLines, supportLines, verdictLines, suppliedVerdictLines, weakValues, firstWrong, decodingLines, suppliedLines}
-use Rattle.demands.specs.Demand1.{Answered, NoDirectory, NothingTaken, Silent, Refused}
+use Rattle.demands.specs.Demand1.{Answered, NoDirectory, NothingLocated, NothingTaken, Silent, Refused}
 use Rattle.demands.proofs.DecodingCases.{verdict-case}
 use Rattle.demands.proofs.AnswerLines.{Has, Chooses, Gives, choice-gives, supplied-gives, refusal-taken, gives-refusal, gives-settled, gives-checked}
 use Rattle.demands.proofs.ParseLines.{HasParse, Settles, decision-settles, no-directory}
@@ -177,6 +180,19 @@ module _ (lim number : ℕ) (plain : List ℕ) where
     unfolding parsedOf
     parse-quiet e = no-directory number plain decided (parse-holds .quiet e)
 
+    located-one : OneOf (parseLines lim number plain) (locatedOf lim number plain lenient .answer)
+    unfolding locatedOf
+    located-one = record { is = parse-holds .is }
+
+    located-quiet : isAccepted (locatedOf lim number plain lenient .answer) ≡ false → NothingLocated (locatedOf lim number plain lenient)
+    unfolding locatedOf
+    located-quiet e =
+        let quiet : decided ≡ verdictRefused (decided .verdict) = parse-holds .quiet e in
+        record {
+          none = ap (λ (d : Decided). d .listed) quiet;
+          warnings = ap (λ (d : Decided). givenOf number (d .first ∷ d .second ∷ d .third ∷ [])) quiet ∙ unfold givenOf keep in refl;
+        }
+
     -- where the parse refuses there are no rows
     rows-none : isAccepted found ≡ false → rowsOf lim plain lenient ≡ []
     unfolding rowsOf rowsAt keep each ascending
@@ -214,15 +230,15 @@ module _ (lim number : ℕ) (plain : List ℕ) where
     unfolding parsedOf
     counted-quiet e = ap length (rows-none e)
 
-    starts-one : OneOf (parseLines lim number plain) (startsOf lim number plain lenient .answer)
-    unfolding startsOf
-    starts-one = record { is = parse-holds .is }
-
     starts-quiet :
-        isAccepted (startsOf lim number plain lenient .answer) ≡ false
-        → startsOf lim number plain lenient ≡ startsBy (startsOf lim number plain lenient .answer) []
-    unfolding startsOf
-    starts-quiet e = ap (startsBy found) (rows-none e)
+        (starts : List ℕ)
+        → isAccepted (rowsCountedOf lim number plain lenient .answer) ≡ false
+        → startsIn (rowsOf lim plain lenient) starts ≡ starts
+    unfolding parsedOf
+    starts-quiet starts e =
+        ap (λ (rows : List ℕ). startsIn rows starts) (rows-none e)
+        ∙ ap (over starts 0) (take-nil (length starts))
+        ∙ over-none starts 0
 
 part-empty : (s p : RefT (List ℕ)) → IsPart s p NoRow → (p .ptr ≡ s .ptr) × (now p ≡ [])
 part-empty s p h = (h .place ∙ ap (λ (k : ℕ). (s .ptr .0, k)) (zero-add (s .ptr .1)), h .bytes)
@@ -357,9 +373,9 @@ every-input-answered =
       scan = scan-one;
       replacement = replaced-one;
       parse = parse-one;
+      located = located-one;
       row = row-one;
       counted = parse-one;
-      starts = starts-one;
       choice = λ lim number shifted anchors n o. record { is = choice-holds lim number shifted anchors n o .is };
       support = λ lim number bv shifted n o. record { is = support-holds lim number bv shifted n o .is };
       verdict = verdict-one;
@@ -378,6 +394,7 @@ refusals-silent =
       scan = scan-quiet;
       replacement = replaced-quiet;
       parse = parse-quiet;
+      located = located-quiet;
       row = row-quiet;
       part = part-empty;
       counted = counted-quiet;

@@ -16,7 +16,7 @@ use Rattle.summary.specs.Page.{pageScanOf}
 use Rattle.summary.specs.Replace.{replaceAnswer}
 use Rattle.slots.specs.Slots.{searchLimit}
 use Rattle.slotted.specs.Parses.{parsedOf}
-use Rattle.rows.specs.RowAnswers.{rowAnswerOf, startsOf}
+use Rattle.rows.specs.RowAnswers.{rowAnswerOf}
 use Rattle.verdict.specs.declared.Decoding.{Decoding}
 use Rattle.numbers.specs.Writes.{Wrote}
 use Rattle.fields.specs.Fields.{layoutBytes}
@@ -89,4 +89,4 @@ pub record CallsAnswered : Type 0 where
   pub rows :
       (number : ℕ) (plain : List ℕ) (leniency : ℕ) (answer answerAtExit : List ℕ) (r : ℕ)
       → Wrote answer 0 (rowsTold number plain leniency) answerAtExit r
-      → ToldInC true rowsSize (startsOf searchLimit number plain (hasDirectory leniency) .answer) answer answerAtExit r
+      → ToldInC true rowsSize (parsedOf searchLimit number plain (hasDirectory leniency) .answer) answer answerAtExit r

@@ -10,7 +10,7 @@ use denote.Ref.{RefT, now}
 use lib.ListN.{length}
 use Rattle.lists.specs.Bytes.{byteAt}
 use Rattle.answers.specs.Answers.{numberOf, isAccepted, noBvs}
-use Rattle.answers.specs.Warns.{noWarnings, noParseWarnings}
+use Rattle.answers.specs.Warns.{blankWarning, noWarnings, noParseWarnings}
 use Rattle.answers.specs.declared.kinds.Answer.{Answer}
 use Rattle.answers.specs.declared.kinds.Bvs.{Bvs}
 use Rattle.answers.specs.declared.settings.Options.{Options}
@@ -21,11 +21,14 @@ use Rattle.page.specs.Superblock.{blankSuperblock, superblockAnswer, checkedSup
 use Rattle.sector.specs.Scan.{blankFits}
 use Rattle.summary.specs.Page.{pageScanOf, scanned}
 use Rattle.summary.specs.Replace.{replaced, storedAfter, shiftedAfter}
+use Rattle.slotted.specs.Decisions.{nothingListed}
+use Rattle.slotted.specs.Locations.{locatedOf}
 use Rattle.slotted.specs.Parses as slotted
 use Rattle.slotted.specs.declared.verdicts.Declared.the-variants.{Scanned}
+use Rattle.slotted.specs.declared.locations.Located.{Located}
 use Rattle.slotted.specs.declared.directories.Parsed.{Parsed}
 use Rattle.rows.specs.Rows.{IsPart}
-use Rattle.rows.specs.RowAnswers.{rowOf, rowAnswerOf, rowsCountedOf, startsBy, startsOf}
+use Rattle.rows.specs.RowAnswers.{rowsOf, rowOf, rowAnswerOf, rowsCountedOf, startsIn}
 use Rattle.rows.specs.declared.spans.Span.the-variants.{NoRow}
 use Rattle.choice.specs.declared.Choice.{Choice}
 use Rattle.choice.specs.Rules.{refusedOf, choiceOf}
@@ -49,19 +52,19 @@ pub record Answered : Type 0 where
   pub replacement :
       (number s : ℕ) (new : List ℕ) (n m : ℕ) (fits : List Fit)
       → OneOf (replacementLines s n m) (replaced number s new n m fits .answer)
-  -- `parse` and `parse_answer`, `row_answer` and `row_found`, `rows_counted`, `row_starts`
+  -- `parse`, `parse_answer` and `locate`, `row_answer` and `row_found`, `rows_counted` and `row_starts`
   pub parse :
       (lim number : ℕ) (plain : List ℕ) (lenient : Bool)
       → OneOf (parseLines lim number plain) (slotted.parsedOf lim number plain lenient .answer)
+  pub located :
+      (lim number : ℕ) (plain : List ℕ) (lenient : Bool)
+      → OneOf (parseLines lim number plain) (locatedOf lim number plain lenient .answer)
   pub row :
       (lim number : ℕ) (plain : List ℕ) (lenient : Bool) (r : ℕ)
       → OneOf (rowLines lim number plain r) (rowAnswerOf lim number plain lenient r)
   pub counted :
       (lim number : ℕ) (plain : List ℕ) (lenient : Bool)
       → OneOf (parseLines lim number plain) (rowsCountedOf lim number plain lenient .answer)
-  pub starts :
-      (lim number : ℕ) (plain : List ℕ) (lenient : Bool)
-      → OneOf (parseLines lim number plain) (startsOf lim number plain lenient .answer)
   -- `choose_bv`, `supplied_bv`
   pub choice :
       (lim number : ℕ) (shifted anchors : List ℕ) (n : ℕ) (o : Options)
@@ -96,6 +99,11 @@ pub record NoDirectory (p : Parsed) : Type 0 where
   pub none : p .found ≡ false
   pub blank : p .directory ≡ record { «array_start» = 0; end = 0; slots = slotted.tableOf []; len = 0; declared = Scanned }
   pub warnings : p .warnings ≡ noParseWarnings
+
+-- nor has what is said of it in a small value
+pub record NothingLocated (l : Located) : Type 0 where
+  pub none : l .listed ≡ nothingListed
+  pub warnings : l .warnings ≡ record { len = 0; first = blankWarning; second = blankWarning; third = blankWarning }
 
 -- values of bv in ascending order, each once
 pub record Ascending (t : Bvs) : Type 0 where
@@ -132,6 +140,10 @@ pub record Refused : Type 0 where
       (lim number : ℕ) (plain : List ℕ) (lenient : Bool)
       → isAccepted (slotted.parsedOf lim number plain lenient .answer) ≡ false
       → NoDirectory (slotted.parsedOf lim number plain lenient)
+  pub located :
+      (lim number : ℕ) (plain : List ℕ) (lenient : Bool)
+      → isAccepted (locatedOf lim number plain lenient .answer) ≡ false
+      → NothingLocated (locatedOf lim number plain lenient)
   pub row :
       (lim number : ℕ) (plain : List ℕ) (lenient : Bool) (r : ℕ)
       → isAccepted (rowAnswerOf lim number plain lenient r) ≡ false
@@ -143,9 +155,9 @@ pub record Refused : Type 0 where
       → isAccepted (rowsCountedOf lim number plain lenient .answer) ≡ false
       → rowsCountedOf lim number plain lenient .rows ≡ 0
   pub starts :
-      (lim number : ℕ) (plain : List ℕ) (lenient : Bool)
-      → isAccepted (startsOf lim number plain lenient .answer) ≡ false
-      → startsOf lim number plain lenient ≡ startsBy (startsOf lim number plain lenient .answer) []
+      (lim number : ℕ) (plain : List ℕ) (lenient : Bool) (starts : List ℕ)
+      → isAccepted (rowsCountedOf lim number plain lenient .answer) ≡ false
+      → startsIn (rowsOf lim plain lenient) starts ≡ starts
   pub choice :
       (lim number : ℕ) (shifted anchors : List ℕ) (n : ℕ) (o : Options)
       → isAccepted (choiceOf lim number shifted anchors n o .answer) ≡ false

@@ -1,7 +1,7 @@
--- A layout has as many bytes as its fields' widths say. Assumes nothing.
+-- A layout has as many bytes as its fields' widths say, and is made of its parts. Assumes nothing.
 use Prim.Native.Nat.{ℕ, zero, suc, _+_, _*_}
-use mathlib.Core.Path.{_≡_, refl, ap₂, _∙_}
-use mathlib.Core.List.{List, [], _∷_, _++_}
+use mathlib.Core.Path.{_≡_, refl, sym, ap, ap₂, _∙_}
+use mathlib.Core.List.{List, [], _∷_, _++_, append-assoc}
 use native.Mathlib.Omega.{arith}
 use lib.ListN.{length, length-append}
 use Rattle.lists.specs.Pieces.{joined}
@@ -28,3 +28,10 @@ pub table-size : (f : ℕ → List Field) (w n : ℕ) → ((k : ℕ) → sizeOf 
 unfolding joined sizeOf
 table-size f w zero h = omega arith
 table-size f w (suc n) h = size-append (joined f n) (f n) ∙ omega (arith, table-size f w n h, h n)
+
+-- the bytes of two parts, one behind the other
+pub layout-append : (fs gs : List Field) → layoutBytes (fs ++ gs) ≡ layoutBytes fs ++ layoutBytes gs
+unfolding layoutBytes
+layout-append [] gs = refl
+layout-append (f ∷ fs) gs =
+    ap (λ (l : List ℕ). fieldBytes f ++ l) (layout-append fs gs) ∙ sym (append-assoc (fieldBytes f) (layoutBytes fs) (layoutBytes gs))

@@ -12,7 +12,7 @@ use Rattle.summary.specs.Replace.{replaced, storedAfter, shiftedAfter}
 use Rattle.decode.specs.Decode.{decodingOf, suppliedDecodingOf, writtenOf}
 use Rattle.verdict.specs.declared.Decoding.{Decoding}
 use Rattle.slotted.specs.Parses.{parsedOf}
-use Rattle.rows.specs.RowAnswers.{rowsOf, rowOf, rowAnswerOf, startsOf}
+use Rattle.rows.specs.RowAnswers.{rowsOf, rowOf, rowAnswerOf}
 use Rattle.numbers.specs.Writes.{Wrote}
 use Rattle.parts.specs.Lent.{isLent, fitsIn}
 use Rattle.layout.specs.Layouts.{scanSize, scanBytes, replacementBytes, decodingSize, decodingBytes}
@@ -80,4 +80,5 @@ rowTold number plain leniency row =
     rowBytes (rowAnswerOf searchLimit number plain (hasDirectory leniency) row) (rowOf searchLimit plain (hasDirectory leniency) row)
 
 abbrev pub rowsTold : ℕ → List ℕ → ℕ → List ℕ
-rowsTold number plain leniency = rowsBytes (startsOf searchLimit number plain (hasDirectory leniency))
+rowsTold number plain leniency =
+    rowsBytes (parsedOf searchLimit number plain (hasDirectory leniency) .answer) (rowsOf searchLimit plain (hasDirectory leniency))

@@ -13,8 +13,7 @@ pub extern "C" fn lumeviqo_parse(
     ensures { λ r. ⌜ Wrote (now (answer .entry)) 0 (parseTold number (now (plain .entry)) leniency) (now (answer .exit)) r ⌝ }
 {
     let options = Options::new(leniency, Options::MIN_TRAILER_COUNT);
-    let found = slotted::parse(number, plain, options);
-    row_layout::write_parse(answer, found)
+    row_layout::write_parse(answer, number, plain, options)
 }
 
 #[no_mangle]
@@ -54,6 +53,5 @@ pub extern "C" fn lumeviqo_rows(number: u64, plain: &[u8], leniency: u8, answer:
     ensures { λ r. ⌜ Wrote (now (answer .entry)) 0 (rowsTold number (now (plain .entry)) leniency) (now (answer .exit)) r ⌝ }
 {
     let options = Options::new(leniency, Options::MIN_TRAILER_COUNT);
-    let found = rows::row_starts(number, plain, options);
-    row_layout::write_rows(answer, found)
+    row_layout::write_rows(answer, number, plain, options)
 }

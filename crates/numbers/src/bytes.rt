@@ -1,5 +1,6 @@
-// Bytes copied.
+// Bytes copied, and zeros.
 ghost use mathlib.Core.Path.{_≡_};
+ghost use lib.ListN.{replicate};
 ghost use Rattle.numbers.specs.Writes.{Wrote, copied};
 
 // All of `out`, where it is as long as `from`; else it stays as it is.
@@ -28,4 +29,22 @@ pub fn put_bytes(out: &mut [u8], at: usize, bytes: &[u8]) -> usize
     let end = at + bytes.len();
     copy(bytes, &mut out[at..end]);
     end
+}
+
+// So many zeros.
+pub fn put_zeros(out: &mut [u8], at: usize, n: usize) -> usize
+    ensures { λ r. ⌜ Wrote (now (out .entry)) at (replicate n 0) (now (out .exit)) r ⌝ }
+{
+    if out.len() < n {
+        return at;
+    }
+    if out.len() - n < at {
+        return at;
+    }
+    let mut i: usize = 0;
+    while i < n {
+        out[at + i] = 0;
+        i += 1;
+    }
+    at + n
 }

@@ -6,6 +6,7 @@ mod values;
 
 pub use bytes::copy;
 pub use bytes::put_bytes;
+pub use bytes::put_zeros;
 pub use puts::put_big_u16;
 pub use puts::put_big_u64;
 pub use puts::put_bool;

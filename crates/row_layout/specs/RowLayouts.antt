@@ -2,6 +2,7 @@
 use Prim.Native.Nat.{ℕ, _+_, _*_}
 use mathlib.Core.Bool.{Bool}
 use mathlib.Core.List.{List, [], _∷_, _++_}
+use lib.ListN.{length}
 use Rattle.lists.specs.Cases.{flag}
 use Rattle.lists.specs.Bytes.{byteAt}
 use Rattle.lists.specs.Pieces.{joined}
@@ -12,7 +13,6 @@ use Rattle.slotted.specs.declared.directories.SlotDirectory.{SlotDirectory}
 use Rattle.slotted.specs.declared.directories.Parsed.{Parsed}
 use Rattle.rows.specs.Rows.{startOf, endOf}
 use Rattle.rows.specs.declared.spans.Span.{Span}
-use Rattle.rows.specs.declared.starts.Starts.{Starts}
 use Rattle.fields.specs.Fields.{Field, little, layoutBytes}
 use Rattle.parts.specs.Parts.{answerSize, answerFields, warningSize, warningsFields}
 
@@ -38,7 +38,7 @@ directoryFields found d =
     ∷ little 2 (declaredCount (d .declared))
     ∷ []
 
--- the table of slots
+-- a table of slots, or of where rows start: 0 in a place that is not used
 abbrev pub slotEntry : List ℕ → ℕ → List Field
 slotEntry slots k = little 2 (byteAt slots k) ∷ []
 
@@ -83,11 +83,14 @@ abbrev pub rowBytes : Answer → Span → List ℕ
 rowBytes x s = layoutBytes (rowFields x s)
 
 -- all: how many, and where each starts
-unfoldable pub rowsFields : Starts → List Field
-rowsFields s = (answerFields (s .answer) ++ (little 2 (s .len) ∷ [])) ++ slotsFields (s .items)
+unfoldable pub listFields : List ℕ → List Field
+listFields rows = little 2 (length rows) ∷ slotsFields rows
+
+unfoldable pub rowsFields : Answer → List ℕ → List Field
+rowsFields x rows = answerFields x ++ listFields rows
 
 abbrev pub rowsSize : ℕ
 rowsSize = answerSize + 2 + slotsSize
 
-abbrev pub rowsBytes : Starts → List ℕ
-rowsBytes s = layoutBytes (rowsFields s)
+abbrev pub rowsBytes : Answer → List ℕ → List ℕ
+rowsBytes x rows = layoutBytes (rowsFields x rows)

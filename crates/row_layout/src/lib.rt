@@ -1,11 +1,15 @@
-// The layouts of include/lumeviqo.h for a plain page's slots and rows, written as those of `layout` are.
+// The layouts of include/lumeviqo.h for a plain page's slots and rows, written as those of `layout` are. Slots and rows go from the page straight
+// into the lent buffer: whoever calls is short of stack.
 mod directories;
+mod listings;
 
 pub use directories::PARSE_SIZE;
-pub use directories::ROW_COUNT_SIZE;
-pub use directories::ROW_SIZE;
-pub use directories::ROWS_SIZE;
 pub use directories::write_parse;
-pub use directories::write_row;
-pub use directories::write_row_count;
-pub use directories::write_rows;
+pub use listings::ROW_COUNT_SIZE;
+pub use listings::ROW_SIZE;
+pub use listings::ROWS_SIZE;
+pub use listings::write_row;
+pub use listings::write_row_count;
+pub use listings::write_rows;
+
+pub const SLOTS_SIZE: usize = 384 * 2;

@@ -16,7 +16,7 @@ use Rattle.lists.proofs.Keep.{keep-append}
 use Rattle.slotted.specs.Directory.{slotsOf, Falls}
 use Rattle.lists.specs.Sorting.{insert}
 use Rattle.lists.proofs.Sorting.{insert-length}
-use Rattle.rows.specs.Rows.{isKept, ascending, rowsAt, headOr, rowIn}
+use Rattle.rows.specs.Rows.{isKept, ascending, rowsAt, fromEnd, headOr, rowIn}
 use Rattle.rows.specs.declared.spans.Span.{Span}
 use Rattle.rows.specs.declared.spans.Span.the-variants.{At, NoRow}
 
@@ -68,11 +68,6 @@ module _ (plain : List ℕ) (start stop : ℕ) where
   abbrev slotAt : ℕ → ℕ
   slotAt k = pairAt plain (start + 2 * k)
 
-  -- the kept offsets of the first k slots, from the last of them to the first
-  unfoldable pub fromEnd : ℕ → List ℕ
-  fromEnd zero = []
-  fromEnd (suc k) = pick (isKept start stop (slotAt k)) (slotAt k ∷ fromEnd k) (fromEnd k)
-
   last-kept : (prev v : ℕ) (l up : List ℕ) → Falls prev (l ++ (v ∷ [])) → (b : Bool) → isKept start stop v ≡ b → ascending (keep (isKept start stop) l) ≡ up → ascending (keep (isKept start stop) l ++ pick b (v ∷ []) []) ≡ pick b (v ∷ up) up
   last-kept prev v l up d true q ih = ascending-last v (keep (isKept start stop) l) (above-kept start stop prev v l (kept-pos start stop v q) d) ∙ ap (λ (x : List ℕ). v ∷ x) ih
   last-kept prev v l up d false q ih = ap ascending (append-nil (keep (isKept start stop) l)) ∙ ih
@@ -81,26 +76,26 @@ module _ (plain : List ℕ) (start stop : ℕ) where
   unfolding keep
   keep-one v = refl
 
-  ascending-end : (prev k : ℕ) → Falls prev (slotsOf plain start k) → ascending (keep (isKept start stop) (slotsOf plain start k)) ≡ fromEnd k
+  ascending-end : (prev k : ℕ) → Falls prev (slotsOf plain start k) → ascending (keep (isKept start stop) (slotsOf plain start k)) ≡ fromEnd plain start stop k
   unfolding each fromEnd
   ascending-end prev zero d = unfold ascending keep in refl
   ascending-end prev (suc k) d =
       ap ascending (keep-append (isKept start stop) (slotsOf plain start k) (slotAt k ∷ []) ∙ ap (λ (x : List ℕ). keep (isKept start stop) (slotsOf plain start k) ++ x) (keep-one (slotAt k)))
-      ∙ last-kept prev (slotAt k) (slotsOf plain start k) (fromEnd k) d (isKept start stop (slotAt k)) refl (ascending-end prev k (falls-init prev (slotAt k) (slotsOf plain start k) d))
+      ∙ last-kept prev (slotAt k) (slotsOf plain start k) (fromEnd plain start stop k) d (isKept start stop (slotAt k)) refl (ascending-end prev k (falls-init prev (slotAt k) (slotsOf plain start k) d))
 
   -- offsets that ascend, each below the next and the last below 0xFF0
   module _ (v k : ℕ) (h : 0 < k) (e : v ≡ pairAt plain (start + 2 * (k - 1))) where
-    end-step : fromEnd k ≡ pick (isKept start stop v) (v ∷ fromEnd (k - 1)) (fromEnd (k - 1))
+    end-step : fromEnd plain start stop k ≡ pick (isKept start stop v) (v ∷ fromEnd plain start stop (k - 1)) (fromEnd plain start stop (k - 1))
     end-step = rw e (one k h)
       where
-        one : (k : ℕ) → 0 < k → fromEnd k ≡ pick (isKept start stop (pairAt plain (start + 2 * (k - 1)))) (pairAt plain (start + 2 * (k - 1)) ∷ fromEnd (k - 1)) (fromEnd (k - 1))
+        one : (k : ℕ) → 0 < k → fromEnd plain start stop k ≡ pick (isKept start stop (pairAt plain (start + 2 * (k - 1)))) (pairAt plain (start + 2 * (k - 1)) ∷ fromEnd plain start stop (k - 1)) (fromEnd plain start stop (k - 1))
         one zero h = absurd (not-suc-le-zero h)
         one (suc k) h = let z : suc k - 1 ≡ k = omega arith in rw z (unfold fromEnd in refl)
 
-    pub end-kept : isKept start stop v ≡ true → fromEnd k ≡ v ∷ fromEnd (k - 1)
+    pub end-kept : isKept start stop v ≡ true → fromEnd plain start stop k ≡ v ∷ fromEnd plain start stop (k - 1)
     end-kept q = end-step ∙ rw q refl
 
-    pub end-not : isKept start stop v ≡ false → fromEnd k ≡ fromEnd (k - 1)
+    pub end-not : isKept start stop v ≡ false → fromEnd plain start stop k ≡ fromEnd plain start stop (k - 1)
     end-not q = end-step ∙ rw q refl
 
 -- the rows of a sound directory

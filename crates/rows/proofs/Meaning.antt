@@ -1,23 +1,31 @@
--- What the rows come to: they follow one another without a gap up to 0xFF0; they fit their table. Assumes nothing.
+-- What the rows come to: they follow one another without a gap up to 0xFF0; the far end lists each kept offset once, ascending. Assumes nothing.
 use Prim.Native.Nat.{ℕ, zero, suc, _+_, _*_, _≤_, _<_}
-use mathlib.Core.Path.{_≡_, ap}
+use mathlib.Core.Path.{_≡_, refl, sym, ap, _∙_, subst}
 use mathlib.Core.List.{List, [], _∷_}
 use mathlib.Core.Bool.{Bool}
 use native.Mathlib.Omega.{arith}
+use native.Mathlib.Nat.{not-suc-le-zero}
+use lib.Dec.{eqb, leb}
 use lib.ListN.{length}
 use lib.Seq.{take-all}
+use Rattle.lists.specs.Cases.{flag}
 use Rattle.lists.specs.Bytes.{byteAt, pairAt}
+use Rattle.lists.specs.Counts.{count}
+use Rattle.lists.specs.Pieces.{keep, over}
 use Rattle.lists.proofs.Each.{each-length}
 use Rattle.lists.proofs.Keep.{keep-le}
+use Rattle.lists.proofs.Sorting.{insert-count}
 use Rattle.slots.specs.Slots.{searchLimit}
 use Rattle.slotted.specs.Directory.{slotsOf}
-use Rattle.slotted.specs.Parses.{tableOf}
+use Rattle.slotted.specs.Decisions.{decisionOf}
+use Rattle.slotted.specs.declared.verdicts.Listed.{Listed}
+use Rattle.slotted.proofs.Decisions.{decided-sound}
 use Rattle.slotted.proofs.Meaning.{listed-few}
-use Rattle.rows.specs.Rows.{isKept, rowsAt, rowIn}
-use Rattle.rows.specs.RowAnswers.{rowsOf, rowOf, startsOf}
+use Rattle.rows.specs.Rows.{isKept, ascending, rowsAt, fromEnd, Lists, rowIn}
+use Rattle.rows.specs.RowAnswers.{rowsOf, rowOf, startsIn}
 use Rattle.rows.specs.declared.spans.Span.{Span}
 use Rattle.rows.specs.declared.spans.Span.the-variants.{At, NoRow}
-use Rattle.rows.proofs.FarEnd.{rows-length}
+use Rattle.rows.proofs.FarEnd.{rows-end, rows-length, Up, rows-up}
 use Rattle.rows.proofs.RowAnswers.{no-rows, row-fits}
 
 -- a row is not empty, and lies below the trailer
@@ -47,9 +55,9 @@ row-there r [] = ((λ h q. omega arith), λ h. no-rows r)
 row-there zero (x ∷ l) = ((λ h q. let z : _≡_ {A = ℕ} 0 1 = cc in omega arith), λ h. absurd (omega arith))
 row-there (suc r) (x ∷ l) = let i = row-there r l in ((λ h q. i .0 (omega arith) q), λ h. i .1 (omega arith))
 
--- ---- the table
+-- ---- all rows
 
--- at most 384 rows, as slots
+-- at most 384, as slots
 rows-at : (plain : List ℕ) (start count : ℕ) → count ≤ 384 → length (rowsAt plain start count) ≤ 384
 rows-at plain start count h =
     let k = keep-le (isKept start (start + 2 * count)) (slotsOf plain start count) in
@@ -59,7 +67,49 @@ pub rows-fit : (plain : List ℕ) (lenient : Bool) → byteAt plain 0xFF0 < 256 
 unfolding rowsOf
 rows-fit plain lenient b = rows-at plain _ _ (listed-few plain lenient b)
 
--- and none is left out
-pub starts-all : (number : ℕ) (plain : List ℕ) (lenient : Bool) → byteAt plain 0xFF0 < 256 → startsOf searchLimit number plain lenient .items ≡ tableOf (rowsOf searchLimit plain lenient)
-unfolding startsOf
-starts-all number plain lenient b = ap tableOf (take-all 384 (rowsOf searchLimit plain lenient) (rows-fit plain lenient b))
+-- so a buffer of 384 holds them all
+pub starts-all :
+    (plain : List ℕ) (lenient : Bool) (starts : List ℕ)
+    → byteAt plain 0xFF0 < 256
+    → 384 ≤ length starts
+    → startsIn (rowsOf searchLimit plain lenient) starts ≡ over starts 0 (rowsOf searchLimit plain lenient)
+starts-all plain lenient starts b h = ap (over starts 0) (take-all (length starts) (rowsOf searchLimit plain lenient) (omega (arith, rows-fit plain lenient b)))
+
+least-first : (x : ℕ) (l : List ℕ) → Up (x ∷ l) → (j : ℕ) → j < length l → x < byteAt l j
+unfolding Up
+least-first x [] u j h = absurd (not-suc-le-zero h)
+least-first x (y ∷ l) u zero h = u .0
+least-first x (y ∷ l) u (suc j) h =
+    let a : x < y = u .0 in
+    let b : y < byteAt l j = least-first y l (u .1) j (omega arith) in
+    omega arith
+
+up-rising : (l : List ℕ) → Up l → (i j : ℕ) → i < j → j < length l → byteAt l i < byteAt l j
+unfolding Up
+up-rising [] u i j h k = absurd (not-suc-le-zero k)
+up-rising (x ∷ l) u i zero h k = absurd (not-suc-le-zero h)
+up-rising (x ∷ l) u zero (suc j) h k = least-first x l u j (omega arith)
+up-rising (x ∷ l) u (suc i) (suc j) h k = up-rising l (u .1) i j (omega arith) (omega arith)
+
+ascending-count : (v : ℕ) (l : List ℕ) → count v (ascending l) ≡ count v l
+unfolding ascending count
+ascending-count v [] = refl
+ascending-count v (x ∷ l) = insert-count leb v x (ascending l) ∙ ap (λ (n : ℕ). flag (eqb v x) + n) (ascending-count v l)
+
+-- read from its far end, a directory lists the kept offsets in ascending order, each once
+pub far-end-lists :
+    (lim : ℕ) (plain : List ℕ) (lenient : Bool)
+    → let l : Listed = decisionOf lim plain lenient .listed in
+    let stop : ℕ = l .start + 2 * l .count in
+    Lists (keep (isKept (l .start) stop) (slotsOf plain (l .start) (l .count))) (fromEnd plain (l .start) stop (l .count))
+far-end-lists lim plain lenient =
+    let l : Listed = decisionOf lim plain lenient .listed in
+    let stop : ℕ = l .start + 2 * l .count in
+    let kept : List ℕ = keep (isKept (l .start) stop) (slotsOf plain (l .start) (l .count)) in
+    let falls = decided-sound lim plain lenient .falls in
+    let sorted : fromEnd plain (l .start) stop (l .count) ≡ ascending kept = sym (rows-end plain (l .start) (l .count) falls) ∙ unfold rowsAt in refl in
+    record {
+      sorted = sorted;
+      all = λ v. ap (count v) sorted ∙ ascending-count v kept;
+      rising = up-rising (fromEnd plain (l .start) stop (l .count)) (subst Up (rows-end plain (l .start) (l .count) falls) (rows-up plain (l .start) (l .count) falls));
+    }

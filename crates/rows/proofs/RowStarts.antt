@@ -1,80 +1,112 @@
--- Laws of the table of where rows start, as it is filled from the directory's far end. Assumes nothing.
-use Prim.Native.Nat.{ℕ, _+_, _-_, _*_, _≤_, _<_}
+-- Laws of where the rows start, as they are listed from the directory's far end into a lent buffer. Assumes nothing.
+use Prim.Native.Nat.{ℕ, suc, _+_, _-_, _*_, _≤_, _<_}
 use mathlib.Core.Path.{_≡_, refl, sym, ap, _∙_}
-use mathlib.Core.List.{List, [], _∷_, _++_, append-nil, append-assoc}
+use mathlib.Core.List.{List, [], _∷_}
 use mathlib.Core.Bool.{Bool, true, false}
 use native.Mathlib.Omega.{arith}
-use lib.ListN.{length, take, set, length-append}
-use lib.Seq.{take-all, take-append-le}
-use Rattle.lists.specs.Bytes.{pairAt}
+use lib.ListN.{length, take, drop, getD, set, length-take, length-drop}
+use lib.Seq.{take-all, drop-drop, getD-take, getD-drop}
+use Rattle.lists.specs.Bytes.{byteAt, pairAt}
+use Rattle.lists.specs.Pieces.{over}
+use Rattle.lists.proofs.Over.{over-length}
+use Rattle.lists.proofs.Filled.{fill-none, front-more, fill-all}
 use Rattle.answers.specs.declared.kinds.Answer.{Answer}
 use Rattle.slotted.specs.Directory.{slotsOf, Falls}
-use Rattle.rows.specs.Rows.{isKept, rowsAt}
 use Rattle.slotted.specs.Decisions.{answerOf, decisionOf}
-use Rattle.slotted.specs.Parses.{tableOf}
-use Rattle.rows.specs.RowAnswers.{rowsIn, startsBy, startsOf}
+use Rattle.slotted.specs.Parses.{parsedOf}
 use Rattle.slotted.specs.declared.verdicts.Decided.{Decided}
-use Rattle.rows.specs.declared.starts.Starts.{Starts}
-use Rattle.rows.proofs.FarEnd.{fromEnd, rows-end, end-kept, end-not}
-use Rattle.slotted.proofs.Parses.{table-put}
+use Rattle.slotted.proofs.Parses.{answer-is}
+use Rattle.rows.specs.Rows.{isKept, rowsAt, fromEnd}
+use Rattle.rows.specs.RowAnswers.{rowsIn, rowsOf, startsIn, StartsWritten}
+use Rattle.rows.proofs.FarEnd.{rows-end, end-kept, end-not}
 use Rattle.rows.proofs.RowAnswers.{rows-decided}
 
--- what holds while the rows are gathered from the far end, with k slots to go
-pub record Gathering (plain : List ℕ) (start count stop k : ℕ) (items : List ℕ) (len : ℕ) : Type 0 where
-  pub seen : List ℕ
+-- what holds when `len` rows are listed, with k slots to go: those to come are the other rows
+pub record Listing (plain : List ℕ) (start count stop k len : ℕ) : Type 0 where
   pub within : len + k ≤ count
   pub ends : stop ≡ start + 2 * count
-  pub rest : rowsAt plain start count ≡ seen ++ fromEnd plain start stop k
-  pub many : len ≡ length seen
-  pub table : items ≡ tableOf (take 384 seen)
+  pub few : len ≤ length (rowsAt plain start count)
+  pub rest : drop len (rowsAt plain start count) ≡ fromEnd plain start stop k
 
-pub gather-none : (plain : List ℕ) (start count : ℕ) (t : List ℕ) → t ≡ tableOf [] → Falls 0xFF0 (slotsOf plain start count) → Gathering plain start count (start + 2 * count) count t 0
-gather-none plain start count t e d = record { seen = []; within = omega arith; ends = refl; rest = rows-end plain start count d; many = refl; table = e }
+pub list-none : (plain : List ℕ) (start count : ℕ) → Falls 0xFF0 (slotsOf plain start count) → Listing plain start count (start + 2 * count) count 0
+list-none plain start count d = record { within = omega arith; ends = refl; few = omega arith; rest = rows-end plain start count d }
 
-module _ (plain : List ℕ) (start count stop k : ℕ) (items : List ℕ) (len : ℕ) (g : Gathering plain start count stop k items len) where
+module _ (plain : List ℕ) (start count stop k len : ℕ) (g : Listing plain start count stop k len) where
+  abbrev rows : List ℕ
+  rows = rowsAt plain start count
+
   module _ (v : ℕ) (h : 0 < k) (e : v ≡ pairAt plain (start + 2 * (k - 1))) where
-    pub gather-skip : isKept start stop v ≡ false → Gathering plain start count stop (k - 1) items len
-    gather-skip q = record {
-      seen = g .seen;
-      within = omega (arith, g .within);
-      ends = g .ends;
-      rest = g .rest ∙ ap (λ (l : List ℕ). g .seen ++ l) (end-not plain start stop v k h e q);
-      many = g .many;
-      table = g .table;
-    }
+    pub list-skip : isKept start stop v ≡ false → Listing plain start count stop (k - 1) len
+    list-skip q =
+        record { within = omega (arith, g .within); ends = g .ends; few = g .few; rest = g .rest ∙ end-not plain start stop v k h e q }
 
     module _ (q : isKept start stop v ≡ true) where
-      -- one row more
-      gather-one : (t : List ℕ) → t ≡ tableOf (take 384 (g .seen ++ (v ∷ []))) → Gathering plain start count stop (k - 1) t (len + 1)
-      gather-one t f = record {
-        seen = g .seen ++ (v ∷ []);
-        within = omega (arith, g .within);
-        ends = g .ends;
-        rest =
-            g .rest ∙ ap (λ (l : List ℕ). g .seen ++ l) (end-kept plain start stop v k h e q) ∙ sym (append-assoc (g .seen) (v ∷ []) (fromEnd plain start stop (k - 1)));
-        many = omega (arith, g .many, length-append (g .seen) (v ∷ []));
-        table = f;
-      }
+      next : drop len rows ≡ v ∷ fromEnd plain start stop (k - 1)
+      next = g .rest ∙ end-kept plain start stop v k h e q
 
-      pub gather-put : len < 384 → Gathering plain start count stop (k - 1) (set items len v) (len + 1)
-      gather-put r =
-          let n : length (g .seen ++ (v ∷ [])) ≤ 384 = omega (arith, g .many, length-append (g .seen) (v ∷ [])) in
-          let a : items ≡ tableOf (g .seen) = g .table ∙ ap tableOf (take-all 384 (g .seen) (omega (arith, g .many))) in
-          gather-one (set items len v) (table-put (g .seen) items len v (sym (g .many)) r a ∙ ap tableOf (sym (take-all 384 (g .seen ++ (v ∷ [])) n)))
+      -- the next row is v
+      pub list-below : len < length rows
+      list-below = let n : length (drop len rows) ≡ suc (length (fromEnd plain start stop (k - 1))) = ap length next in omega (arith, length-drop len rows)
 
-      pub gather-full : 384 ≤ len → Gathering plain start count stop (k - 1) items (len + 1)
-      gather-full r = gather-one items (g .table ∙ ap tableOf (sym (take-append-le 384 (g .seen) (v ∷ []) (omega (arith, g .many)))))
+      pub list-at : byteAt rows len ≡ v
+      list-at =
+          let z : len + 0 ≡ len = omega arith in
+          ap (byteAt rows) (sym z) ∙ sym (getD-drop len rows 0 0) ∙ ap (λ (l : List ℕ). byteAt l 0) next
 
-  pub gather-all : (x : Answer) → k ≤ 0 → record { answer = x; items = items; len = len } ≡ startsBy x (rowsAt plain start count)
+      pub list-more : Listing plain start count stop (k - 1) (len + 1)
+      list-more =
+          record {
+            within = omega (arith, g .within);
+            ends = g .ends;
+            few = omega (arith, list-below);
+            rest = sym (drop-drop 1 len rows) ∙ ap (drop 1) next;
+          }
+
+  pub list-all : k ≤ 0 → len ≡ length rows
   unfolding fromEnd
-  gather-all x h =
+  list-all h =
       let z : k ≡ 0 = omega arith in
-      let s : rowsAt plain start count ≡ g .seen = (rw z at (g .rest)) ∙ append-nil (g .seen) in
-      let whole : _≡_ {A = Starts} (record { answer = x; items = items; len = len }) (startsBy x (g .seen)) = λ i. record { answer = x; items = g .table i; len = g .many i } in
-      whole ∙ ap (startsBy x) (sym s)
+      let n : length (drop len rows) ≡ length (fromEnd plain start stop 0) = ap length (g .rest) ∙ ap (λ (j : ℕ). length (fromEnd plain start stop j)) z in
+      omega (arith, n, length-drop len rows, g .few)
+
+-- ---- the buffer: the first rows, as many as have room
+
+module _ (rows l : List ℕ) where
+  abbrev src : List ℕ
+  src = take (length l) rows
+
+  pub starts-none : l ≡ over l 0 (take 0 src)
+  starts-none = fill-none l src 0
+
+  module _ (out : List ℕ) (len : ℕ) (o : out ≡ over l 0 (take len src)) where
+    pub starts-long : length out ≡ length l
+    starts-long = ap length o ∙ over-length l (take len src) 0 (omega (arith, length-take len src, length-take (length l) rows))
+
+    pub starts-put : (v : ℕ) → len < length rows → byteAt rows len ≡ v → len < length out → set out len v ≡ over l 0 (take (len + 1) src)
+    starts-put v h e r =
+        let k : len < length l = omega (arith, starts-long) in
+        let x : v ≡ getD src len 0 = sym (getD-take (length l) rows len 0 k ∙ e) in
+        ap (λ (t : List ℕ). set t len v) o
+        ∙ ap (set (over l 0 (take len src)) len) x
+        ∙ front-more l src 0 len k (omega (arith, length-take (length l) rows))
+
+    pub starts-full : length out ≤ len → out ≡ over l 0 (take (len + 1) src)
+    starts-full r =
+        let n : length src ≤ len = omega (arith, length-take (length l) rows, starts-long) in
+        o ∙ ap (over l 0) (take-all len src n ∙ sym (take-all (len + 1) src (omega arith)))
+
+    pub starts-all : len ≡ length rows → out ≡ startsIn rows l
+    starts-all e = o ∙ fill-all l src 0 len (omega (arith, length-take (length l) rows))
 
 -- the whole, of a decision
-pub starts-decided : (lim number : ℕ) (plain : List ℕ) (lenient : Bool) (d : Decided) (x : Answer)
-    → d ≡ decisionOf lim plain lenient → x ≡ answerOf number (d .verdict) → startsBy x (rowsIn plain (d .listed)) ≡ startsOf lim number plain lenient
-unfolding startsOf
-starts-decided lim number plain lenient d x e h = rw (rows-decided lim plain lenient d e, h, e) refl
+pub starts-decided :
+    (lim number : ℕ) (plain : List ℕ) (lenient : Bool) (d : Decided) (x : Answer) (n : ℕ) (l out : List ℕ)
+    → d ≡ decisionOf lim plain lenient
+    → x ≡ answerOf number (d .verdict)
+    → (n ≡ length (rowsIn plain (d .listed))) × (out ≡ startsIn (rowsIn plain (d .listed)) l)
+    → StartsWritten lim number plain lenient l out (record { answer = x; rows = n })
+starts-decided lim number plain lenient d x n l out e ex w =
+    let same : rowsIn plain (d .listed) ≡ rowsOf lim plain lenient = rows-decided lim plain lenient d e in
+    let answered : x ≡ parsedOf lim number plain lenient .answer = answer-is lim number plain lenient d e x ex in
+    let many : n ≡ length (rowsOf lim plain lenient) = w .0 ∙ ap length same in
+    record { counted = λ i. record { answer = answered i; rows = many i }; written = w .1 ∙ ap (λ (rows : List ℕ). startsIn rows l) same }

@@ -1,14 +1,16 @@
 -- Document 01, "Rows: 1, the parse, 16; every refusal gives the empty part". Assumes nothing.
 use Prim.Native.Nat.{ℕ}
+use mathlib.Core.Path.{_≡_}
 use mathlib.Core.List.{List}
 use mathlib.Core.Bool.{Bool}
 use lib.ListN.{length, take}
 use Rattle.lists.specs.Cases.{pick}
+use Rattle.lists.specs.Pieces.{over}
 use Rattle.answers.specs.Answers.{isAccepted}
 use Rattle.answers.specs.declared.kinds.Answer.{Answer}
 use Rattle.answers.specs.declared.kinds.Answer.the-variants as answer
 use Rattle.slotted.specs.Decisions.{answerOf, decisionOf}
-use Rattle.slotted.specs.Parses.{tableOf, parsedOf}
+use Rattle.slotted.specs.Parses.{parsedOf}
 use Rattle.slotted.specs.declared.verdicts.Listed.{Listed}
 use Rattle.slotted.specs.declared.verdicts.Decided.{Decided}
 use Rattle.rows.specs.Rows.{rowsAt, rowIn}
@@ -16,7 +18,6 @@ use Rattle.rows.specs.declared.spans.Span.{Span}
 use Rattle.rows.specs.declared.spans.Span.the-variants.{At, NoRow}
 use Rattle.rows.specs.declared.spans.RowFound.{RowFound}
 use Rattle.rows.specs.declared.spans.RowsCounted.{RowsCounted}
-use Rattle.rows.specs.declared.starts.Starts.{Starts}
 
 -- the rows of what is listed
 abbrev pub rowsIn : List ℕ → Listed → List ℕ
@@ -50,9 +51,10 @@ rowFoundOf lim number plain lenient r = record { answer = rowAnswerOf lim number
 abbrev pub rowsCountedOf : ℕ → ℕ → List ℕ → Bool → RowsCounted
 rowsCountedOf lim number plain lenient = record { answer = parsedOf lim number plain lenient .answer; rows = length (rowsOf lim plain lenient) }
 
--- all rows: the parse's answer, where the first 384 rows start, and how many rows there are
-abbrev pub startsBy : Answer → List ℕ → Starts
-startsBy x rows = record { answer = x; items = tableOf (take 384 rows); len = length rows }
+-- where all rows start, in a lent buffer: as many as have room, and what stands behind them stays
+abbrev pub startsIn : List ℕ → List ℕ → List ℕ
+startsIn rows starts = over starts 0 (take (length starts) rows)
 
-unfoldable pub startsOf : ℕ → ℕ → List ℕ → Bool → Starts
-startsOf lim number plain lenient = startsBy (answerOf number (decisionOf lim plain lenient .verdict)) (rowsOf lim plain lenient)
+pub record StartsWritten (lim number : ℕ) (plain : List ℕ) (lenient : Bool) (starts startsAtExit : List ℕ) (n : RowsCounted) : Type 0 where
+  pub counted : n ≡ rowsCountedOf lim number plain lenient
+  pub written : startsAtExit ≡ startsIn (rowsOf lim plain lenient) starts

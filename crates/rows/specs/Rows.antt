@@ -1,12 +1,14 @@
 -- Document 01, "Slots and rows": the rows of a directory at `start` with `count` slots. Assumes nothing.
-use Prim.Native.Nat.{ℕ, zero, suc, _+_, _-_, _*_}
+use Prim.Native.Nat.{ℕ, zero, suc, _+_, _-_, _*_, _<_}
 use mathlib.Core.Path.{_≡_}
 use mathlib.Core.List.{List, [], _∷_}
 use mathlib.Core.Bool.{Bool, false, _&&_, not}
 use denote.Ref.{RefT, now}
 use lib.Dec.{ltb, leb}
-use lib.ListN.{take, drop}
+use lib.ListN.{length, take, drop}
 use Rattle.lists.specs.Cases.{pick}
+use Rattle.lists.specs.Bytes.{byteAt, pairAt}
+use Rattle.lists.specs.Counts.{count}
 use Rattle.lists.specs.Sorting.{insert}
 use Rattle.lists.specs.Pieces.{keep}
 use Rattle.slotted.specs.Directory.{slotsOf}
@@ -26,6 +28,19 @@ ascending (x ∷ l) = insert leb x (ascending l)
 -- "rows ascend": where the rows start
 unfoldable pub rowsAt : List ℕ → ℕ → ℕ → List ℕ
 rowsAt plain start count = ascending (keep (isKept start (start + 2 * count)) (slotsOf plain start count))
+
+-- the same list with nothing sorted: the kept offsets of the first k slots, from the last of them to the first
+unfoldable pub fromEnd : List ℕ → ℕ → ℕ → ℕ → List ℕ
+fromEnd plain start stop zero = []
+fromEnd plain start stop (suc k) =
+    let v : ℕ = pairAt plain (start + 2 * k) in
+    pick (isKept start stop v) (v ∷ fromEnd plain start stop k) (fromEnd plain start stop k)
+
+-- "rows ascend": a list has the kept offsets, each once and each below the next
+pub record Lists (kept rows : List ℕ) : Type 0 where
+  pub sorted : rows ≡ ascending kept
+  pub all : (v : ℕ) → count v rows ≡ count v kept
+  pub rising : (i j : ℕ) → i < j → j < length rows → byteAt rows i < byteAt rows j
 
 -- "a row runs from a kept live offset to the next greater one or 0xFF0 .. the first being number 0"
 abbrev pub headOr : ℕ → List ℕ → ℕ

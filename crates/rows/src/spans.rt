@@ -186,7 +186,7 @@ fn count_at(plain: &[u8], start: usize, count: usize) -> usize
 }
 
 // Whether an offset is live and points past the directory or before it.
-pub(crate) fn is_kept(start: usize, stop: usize, v: usize) -> bool
+pub fn is_kept(start: usize, stop: usize, v: usize) -> bool
     ensures { λ r. ⌜ r ≡ isKept start stop v ⌝ }
 {
     if v == 0 {

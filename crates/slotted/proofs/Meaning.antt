@@ -1,22 +1,25 @@
--- What the parse comes to: at most three warnings; a directory that fits its table. Assumes nothing.
-use Prim.Native.Nat.{ℕ, _+_, _*_, _≤_, _<_}
-use mathlib.Core.Path.{_≡_, refl}
+-- What the parse comes to: at most three warnings; a directory that fits its table; a small value that says the same. Assumes nothing.
+use Prim.Native.Nat.{ℕ, _+_, _*_, _≤_, _<_, min}
+use mathlib.Core.Path.{_≡_, refl, sym, ap, _∙_}
 use mathlib.Core.List.{List}
 use mathlib.Core.Bool.{Bool, true, false}
 use native.Mathlib.Omega.{arith}
 use lib.Dec.{eqb, leb}
-use lib.ListN.{set}
+use lib.ListN.{set, take, drop}
 use Rattle.lists.specs.Cases.{pick}
 use Rattle.lists.specs.Bytes.{byteAt}
 use Rattle.answers.specs.Warns.{warningNumber, noParseWarnings, withParseWarning}
 use Rattle.answers.specs.declared.notices.WarningKind.{WarningKind}
 use Rattle.answers.specs.declared.notices.ParseWarnings.{ParseWarnings}
 use Rattle.slots.specs.Slots.{searchLimit}
+use Rattle.slotted.specs.Directory.{slotsOf}
 use Rattle.slotted.specs.Decisions.{decisionOf}
-use Rattle.slotted.specs.Parses.{warned, parsedOf}
+use Rattle.slotted.specs.Locations.{locatedOf}
+use Rattle.slotted.specs.Parses.{tableOf, warned, parsedOf, SaysTheParse}
 use Rattle.slotted.specs.declared.verdicts.Decided.{Decided}
 use Rattle.slotted.proofs.Found.{scanned-few}
 use Rattle.slotted.proofs.Decisions.{decided-holds}
+use Rattle.slotted.proofs.Located.{table-given}
 
 one-more : (t : ParseWarnings) (number : ℕ) (kind : WarningKind) (n : ℕ) → t .len ≤ n → warned t number kind .len ≤ n + 1
 unfolding warned withParseWarning
@@ -48,3 +51,28 @@ listed-few plain lenient b =
 pub directory-fits : (number : ℕ) (plain : List ℕ) (lenient : Bool) → byteAt plain 0xFF0 < 256 → parsedOf searchLimit number plain lenient .directory .len ≤ 384
 unfolding parsedOf
 directory-fits number plain lenient b = listed-few plain lenient b
+
+-- ---- the small value
+
+-- it says what the parse says
+pub located-says :
+    (number : ℕ) (plain : List ℕ) (lenient : Bool)
+    → byteAt plain 0xFF0 < 256
+    → SaysTheParse plain (locatedOf searchLimit number plain lenient) (parsedOf searchLimit number plain lenient)
+unfolding locatedOf parsedOf
+located-says number plain lenient b =
+    let d : Decided = decisionOf searchLimit plain lenient in
+    let few : min (d .listed .count) 384 ≡ d .listed .count = omega (arith, listed-few plain lenient b) in
+    let table = table-given number (d .first) (d .second) (d .third) in
+    record {
+      answer = refl;
+      found = refl;
+      start = refl;
+      end = refl;
+      count = refl;
+      declared = refl;
+      slots = ap (λ (n : ℕ). tableOf (slotsOf plain (d .listed .start) n)) (sym few);
+      warnings = ap (λ (t : ParseWarnings). t .len) (sym table);
+      first-three = unfold noParseWarnings in ap (λ (t : ParseWarnings). take 3 (t .items)) (sym table);
+      no-other = ap (λ (t : ParseWarnings). drop 3 (t .items)) table ∙ unfold noParseWarnings in refl;
+    }

@@ -1,17 +1,21 @@
--- The parse's answer: the directory with its table of 384 slots, and the warnings in a table of 386. Assumes nothing.
+-- The parse's answer: the directory with its table of 384 slots, and the warnings in a table of 386; and what the small value says of it. Assumes
+-- nothing.
 use Prim.Native.Nat.{ℕ, _+_, _-_, _*_, min}
-use mathlib.Core.List.{List, _++_}
+use mathlib.Core.Path.{_≡_}
+use mathlib.Core.List.{List, [], _∷_, _++_}
 use mathlib.Core.Bool.{Bool}
 use lib.Dec.{eqb}
-use lib.ListN.{length, replicate}
+use lib.ListN.{length, replicate, set, take, drop}
 use Rattle.lists.specs.Cases.{pick}
-use Rattle.answers.specs.Warns.{warningNumber, noParseWarnings, withParseWarning}
+use Rattle.answers.specs.Warns.{warningNumber, blankWarning, noParseWarnings, withParseWarning}
 use Rattle.answers.specs.declared.notices.WarningKind.{WarningKind}
 use Rattle.answers.specs.declared.notices.ParseWarnings.{ParseWarnings}
 use Rattle.slotted.specs.Directory.{slotsOf}
 use Rattle.slotted.specs.Decisions.{answerOf, decisionOf}
 use Rattle.slotted.specs.declared.verdicts.Listed.{Listed}
 use Rattle.slotted.specs.declared.verdicts.Decided.{Decided}
+use Rattle.slotted.specs.declared.locations.Given.{Given}
+use Rattle.slotted.specs.declared.locations.Located.{Located}
 use Rattle.slotted.specs.declared.directories.SlotDirectory.{SlotDirectory}
 use Rattle.slotted.specs.declared.directories.Parsed.{Parsed}
 
@@ -36,9 +40,27 @@ warned t number kind = pick (eqb (warningNumber kind) 0) t (withParseWarning t n
 abbrev pub warningsOf : ℕ → Decided → ParseWarnings
 warningsOf number d = warned (warned (warned noParseWarnings number (d .first)) number (d .second)) number (d .third)
 
+-- the same table, of warnings that are given
+abbrev pub warningTable : Given → ParseWarnings
+warningTable g =
+    record { items = set (set (set (noParseWarnings .items) 0 (g .first)) 1 (g .second)) 2 (g .third); len = g .len }
+
 abbrev pub parsedBy : ℕ → List ℕ → Decided → Parsed
 parsedBy number plain d =
     record { answer = answerOf number (d .verdict); found = d .listed .found; directory = directoryOf plain (d .listed); warnings = warningsOf number d }
 
 unfoldable pub parsedOf : ℕ → ℕ → List ℕ → Bool → Parsed
 parsedOf lim number plain lenient = parsedBy number plain (decisionOf lim plain lenient)
+
+-- What the small value says is the parse's: the same answer, directory and slots, and all the warnings that it has
+pub record SaysTheParse (plain : List ℕ) (l : Located) (p : Parsed) : Type 0 where
+  pub answer : l .answer ≡ p .answer
+  pub found : l .listed .found ≡ p .found
+  pub start : l .listed .start ≡ p .directory .«array_start»
+  pub end : l .listed .start + 2 * l .listed .count ≡ p .directory .end
+  pub count : l .listed .count ≡ p .directory .len
+  pub declared : l .listed .declared ≡ p .directory .declared
+  pub slots : tableOf (slotsOf plain (l .listed .start) (l .listed .count)) ≡ p .directory .slots
+  pub warnings : l .warnings .len ≡ p .warnings .len
+  pub first-three : l .warnings .first ∷ l .warnings .second ∷ l .warnings .third ∷ [] ≡ take 3 (p .warnings .items)
+  pub no-other : drop 3 (p .warnings .items) ≡ replicate 383 blankWarning

@@ -1,4 +1,6 @@
-// The parse's answer, with its tables: built once, after everything is decided.
+// The parse's answer with document 01's tables, made of what `locate` says and of the page.
+use crate::locations::Given;
+use crate::locations::locate;
 use crate::verdicts::Declared;
 use crate::verdicts::Listed;
 use crate::verdicts::decide;
@@ -6,8 +8,6 @@ use crate::verdicts::slot_at;
 use answers::Answer;
 use answers::Options;
 use answers::ParseWarnings;
-use answers::Warning;
-use answers::WarningKind;
 use slots::SEARCH_LIMIT;
 ghost use mathlib.Core.Path.{_≡_};
 ghost use mathlib.Core.List.{[]};
@@ -15,9 +15,8 @@ ghost use Prim.Native.Nat.{_+_, _*_, _≤_, min};
 ghost use lib.ListN.{length};
 ghost use Rattle.slots.specs.Slots.{searchLimit};
 ghost use Rattle.answers.specs.Settings.{directory};
-ghost use Rattle.answers.specs.Warns.{noParseWarnings, withParseWarning};
 ghost use Rattle.slotted.specs.Directory.{slotsOf, Sound};
-ghost use Rattle.slotted.specs.Parses.{tableOf, directoryOf, warned, parsedOf};
+ghost use Rattle.slotted.specs.Parses.{tableOf, directoryOf, warningTable, parsedOf};
 
 // `array_start` and `end` are byte offsets; the slots are in array order, zeros deleted ones, and 0 stands in the places past `len`.
 pub struct SlotDirectory {
@@ -36,20 +35,18 @@ pub struct Parsed {
     pub warnings: ParseWarnings,
 }
 
-// The slot directory of a plain page.
+// The slot directory of a plain page. It is the one function that builds the tables, and they go by value: 816 bytes of directory, 12,360 of warnings.
+// Where stack or time is short, ask `locate`, and read the slots where they stand.
 pub fn parse(number: u64, plain: &[u8], options: Options) -> Parsed
     ensures { λ r. ⌜ r ≡ parsedOf searchLimit number (now (plain .entry)) (directory options) ⌝ }
 {
-    let d = decide(plain, SEARCH_LIMIT, options.directory());
-    let verdict = d.verdict;
-    let listed = d.listed;
-    let first = d.first;
-    let second = d.second;
-    let third = d.third;
-    let answer = verdict.answer(number);
+    let l = locate(number, plain, options);
+    let answer = l.answer;
+    let listed = l.listed;
+    let given = l.warnings;
     let found = listed.found;
     let directory = tabled(plain, listed);
-    let warnings = given(number, first, second, third);
+    let warnings = warning_table(given);
     Parsed {
         answer,
         found,
@@ -67,85 +64,18 @@ pub fn parse_answer(number: u64, plain: &[u8], options: Options) -> Answer
     verdict.answer(number)
 }
 
-// The table of the warnings that were given. It is long: whichever function makes it makes it in its place, and it is not moved.
-fn given(number: u64, first: WarningKind, second: WarningKind, third: WarningKind) -> ParseWarnings
-    ensures { λ r. ⌜ r ≡ warned (warned (warned noParseWarnings number first) number second) number third ⌝ }
+// The warnings in their table.
+fn warning_table(given: Given) -> ParseWarnings
+    ensures { λ r. ⌜ r ≡ warningTable given ⌝ }
 {
-    if first.number() == 0 {
-        return last_two(number, second, third);
-    }
-    if second.number() == 0 {
-        if third.number() == 0 {
-            return one(number, first);
-        }
-        return two(number, first, third);
-    }
-    if third.number() == 0 {
-        return two(number, first, second);
-    }
-    three(number, first, second, third)
-}
-
-fn last_two(number: u64, second: WarningKind, third: WarningKind) -> ParseWarnings
-    ensures { λ r. ⌜ r ≡ warned (warned noParseWarnings number second) number third ⌝ }
-{
-    if second.number() == 0 {
-        if third.number() == 0 {
-            return ParseWarnings::none();
-        }
-        return one(number, third);
-    }
-    if third.number() == 0 {
-        return one(number, second);
-    }
-    two(number, second, third)
-}
-
-fn one(number: u64, a: WarningKind) -> ParseWarnings
-    ensures { λ r. ⌜ r ≡ withParseWarning noParseWarnings number a ⌝ }
-{
+    let first = given.first;
+    let second = given.second;
+    let third = given.third;
     let mut table = ParseWarnings::none();
-    table.items[0] = Warning {
-        page: number,
-        kind: a,
-    };
-    table.len = 1;
-    table
-}
-
-fn two(number: u64, a: WarningKind, b: WarningKind) -> ParseWarnings
-    ensures { λ r. ⌜ r ≡ withParseWarning (withParseWarning noParseWarnings number a) number b ⌝ }
-{
-    let mut table = ParseWarnings::none();
-    table.items[0] = Warning {
-        page: number,
-        kind: a,
-    };
-    table.items[1] = Warning {
-        page: number,
-        kind: b,
-    };
-    table.len = 2;
-    table
-}
-
-fn three(number: u64, a: WarningKind, b: WarningKind, c: WarningKind) -> ParseWarnings
-    ensures { λ r. ⌜ r ≡ withParseWarning (withParseWarning (withParseWarning noParseWarnings number a) number b) number c ⌝ }
-{
-    let mut table = ParseWarnings::none();
-    table.items[0] = Warning {
-        page: number,
-        kind: a,
-    };
-    table.items[1] = Warning {
-        page: number,
-        kind: b,
-    };
-    table.items[2] = Warning {
-        page: number,
-        kind: c,
-    };
-    table.len = 3;
+    table.items[0] = first;
+    table.items[1] = second;
+    table.items[2] = third;
+    table.len = given.len;
     table
 }
 
@@ -167,8 +97,7 @@ fn tabled(plain: &[u8], listed: Listed) -> SlotDirectory
     }
 }
 
-// An empty table of slots.
-pub fn no_slots() -> [u16; 384]
+fn no_slots() -> [u16; 384]
     ensures { λ r. ⌜ r ≡ tableOf [] ⌝ }
 {
     [0u16; 384]

@@ -4,13 +4,16 @@
 // It departs from the original in shape: the slots and the warnings stand in fixed tables, and what the parse decides is settled in small values
 // before a table is made, so that who asks for rows makes none.
 mod directories;
+mod locations;
 mod verdicts;
 
 pub use directories::Parsed;
 pub use directories::SlotDirectory;
-pub use directories::no_slots;
 pub use directories::parse;
 pub use directories::parse_answer;
+pub use locations::Given;
+pub use locations::Located;
+pub use locations::locate;
 pub use verdicts::Decided;
 pub use verdicts::Declared;
 pub use verdicts::Listed;

@@ -1,33 +1,26 @@
--- `lumeviqo_rows` meets its contract: what was found is told.
+-- `lumeviqo_rows` meets its contract: the rows are told.
 use borrow.Author.Needs.{needs}
-use mathlib.Core.Path.{ap, _∙_}
+use mathlib.Core.Path.{ap}
 use denote.Ref.{now}
 use Rattle.numbers.proofs.Stored.{wrote-same}
 use Rattle.answers.specs.Settings.{directory}
 use Rattle.answers.specs.declared.settings.Options.{Options}
-use Rattle.rows.specs.RowAnswers.{startsOf}
-use Rattle.row_layout.specs.RowLayouts.{rowsBytes}
 use Rattle.slots.specs.Slots.{searchLimit}
+use Rattle.slotted.specs.Parses.{parsedOf}
+use Rattle.rows.specs.RowAnswers.{rowsOf}
+use Rattle.row_layout.specs.RowLayouts.{rowsBytes}
 use Rattle.lumeviqo.proofs.directories.lumeviqo_rows.Statement.{statement}
 use Rattle.lumeviqo.proofs.directories.lumeviqo_rows.Tie as tie
 
 returns : tie.Need-returns
 returns c =
     let write = c .before .before in
-    let found = write .before .before in
-    let options = found .before in
+    let options = write .before .before in
     let a = options .before .before .before .args in
     wrote-same
-    (ap rowsBytes
-    (found .row-starts .ensures ∙ ap (λ (o : Options). startsOf searchLimit (a .number) (now (a .plain)) (directory o)) (options .new .ensures)))
+    (ap (λ (o : Options). rowsBytes (parsedOf searchLimit (a .number) (now (a .plain)) (directory o) .answer) (rowsOf searchLimit (now (a .plain)) (directory o)))
+    (options .new .ensures))
     (write .write-rows .ensures)
 
 pub lumeviqo-rows-spec : {M : Type 1} → statement M
-lumeviqo-rows-spec =
-    tie.close
-    (tie.spec
-    (λ c κs. search needs)
-    (λ c κs. search needs)
-    (λ c κs. search needs)
-    (λ c. search needs)
-    returns)
+lumeviqo-rows-spec = tie.close (tie.spec (λ c κs. search needs) (λ c κs. search needs) (λ c. search needs) returns)

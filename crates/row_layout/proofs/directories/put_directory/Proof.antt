@@ -2,13 +2,13 @@
 use borrow.Author.Needs.{needs}
 use Rattle.fields.specs.Fields.{fieldBytes}
 use Rattle.fields.proofs.Puts.{put-none, put-field, put-known}
-use Rattle.row_layout.specs.RowLayouts.{directoryFields}
+use Rattle.row_layout.specs.FromPage.{listedFields}
 use Rattle.row_layout.proofs.directories.put_directory.Statement.{statement}
 use Rattle.row_layout.proofs.directories.put_directory.Tie as tie
 
 -- the puts, from the last back
 returns : tie.Need-returns
-unfolding directoryFields fieldBytes
+unfolding listedFields fieldBytes
 returns c =
     let count = c .before .before in
     let declared = count .before .before .before .before in

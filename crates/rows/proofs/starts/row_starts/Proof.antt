@@ -11,17 +11,25 @@ use Rattle.rows.proofs.starts.row_starts.Tie as tie
 
 starts-at-requires : tie.Need-starts-at-requires
 starts-at-requires c κs =
-    let d = c .before .before in
+    let d = c .before .before .before in
     sound-decided searchLimit _ _ (d .decide .result) (d .decide .ensures)
 
 returns : tie.Need-returns
 returns c =
-    let v = c .before in
+    let s = c .before .before in
+    let v = s .before .before in
     let d = v .before .before in
-    let a = d .before .before .before .args in
-    let e = d .decide .ensures ∙ ap (decisionOf searchLimit (a .plain .now)) (d .before .directory .ensures) in
-    c .starts-at .ensures
-    ∙ starts-decided searchLimit (a .number) (a .plain .now) (directory (a .options)) (d .decide .result) (v .answer .result) e (v .answer .ensures)
+    let a = d .before .before .before .before .args in
+    starts-decided searchLimit (a .number) (a .plain .now) (directory (a .options)) (d .decide .result) (v .answer .result) (s .starts-at .result) _ _
+    (d .decide .ensures ∙ ap (decisionOf searchLimit (a .plain .now)) (d .before .directory .ensures)) (v .answer .ensures) (s .starts-at .ensures)
 
 pub row-starts-spec : {M : Type 1} → statement M
-row-starts-spec = tie.close (tie.spec (λ c κs. search needs) (λ c κs. search needs) (λ c κs. search needs) starts-at-requires returns)
+row-starts-spec =
+    tie.close
+    (tie.spec
+    (λ c κs. search needs)
+    (λ c κs. search needs)
+    (λ c κs. search needs)
+    starts-at-requires
+    (λ c. search needs)
+    returns)

@@ -4,8 +4,8 @@ use native.Mathlib.Omega.{arith}
 use Rattle.fields.proofs.Puts.{put-none, put-known, put-then, layout-short, layout-put}
 use Rattle.row_layout.specs.RowLayouts.{rowFields}
 use Rattle.row_layout.proofs.Sizes.{row-size}
-use Rattle.row_layout.proofs.directories.write_row.Statement.{statement}
-use Rattle.row_layout.proofs.directories.write_row.Tie as tie
+use Rattle.row_layout.proofs.listings.write_row.Statement.{statement}
+use Rattle.row_layout.proofs.listings.write_row.Tie as tie
 
 returns : tie.Need-returns
 returns c = layout-short _ (row-size _ _) (omega arith)

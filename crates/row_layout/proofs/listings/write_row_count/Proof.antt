@@ -5,8 +5,8 @@ use Rattle.fields.specs.Fields.{fieldBytes}
 use Rattle.fields.proofs.Puts.{put-none, put-field, put-then, layout-short, layout-put}
 use Rattle.row_layout.specs.RowLayouts.{rowCountFields}
 use Rattle.row_layout.proofs.Sizes.{row-count-size}
-use Rattle.row_layout.proofs.directories.write_row_count.Statement.{statement}
-use Rattle.row_layout.proofs.directories.write_row_count.Tie as tie
+use Rattle.row_layout.proofs.listings.write_row_count.Statement.{statement}
+use Rattle.row_layout.proofs.listings.write_row_count.Tie as tie
 
 returns : tie.Need-returns
 returns c = layout-short _ (row-count-size _ _) (omega arith)
