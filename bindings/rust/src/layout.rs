@@ -58,7 +58,8 @@ impl Layout<'_> {
     }
 
     fn slots(&self, at: usize, count: usize) -> impl Iterator<Item = u16> {
-        (0..count).map(move |k| self.u16(at + h::SLOT_LENGTH * k))
+        let (slots, _) = self.0[at..][..h::SLOT_LENGTH * count].as_chunks();
+        slots.iter().map(|&slot| u16::from_le_bytes(slot))
     }
 
     fn evidence(&self, at: usize) -> Evidence {

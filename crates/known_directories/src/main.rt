@@ -98,6 +98,8 @@ fn show(name: &[u8], plain: &[u8], bits: u8) {
     nth_warning(warnings, 2);
     text(b" rows");
     list(plain, options);
+    text(b" starts");
+    two_starts(plain, options);
     text(b"\n");
 }
 
@@ -128,6 +130,18 @@ fn list(plain: &[u8], options: Options) {
     }
     text(b" then");
     answer(rows::row_answer(7, plain, options, count));
+}
+
+// Where the first two rows start, in a buffer that has room for no more and held 9, then what is answered beside it.
+fn two_starts(plain: &[u8], options: Options) {
+    let mut starts = [9u16; 2];
+    let counted = rows::row_starts(7, plain, options, &mut starts);
+    number(starts[0] as u64);
+    number(starts[1] as u64);
+    text(b" of");
+    let a = counted.answer;
+    answer(a);
+    number(counted.rows as u64);
 }
 
 fn both(name: &[u8], plain: &[u8]) {

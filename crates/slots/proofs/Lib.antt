@@ -6,6 +6,7 @@ pub mod Limits
 pub mod Runs
 pub mod RowCounts
 pub mod Fields
+pub mod Passing
 pub mod Pages
 pub mod Best
 pub mod Broken

@@ -93,7 +93,7 @@ module _ (a b : ℕ) (p : List ℕ) where
   pair-to i k r e q = q ∙ ap (hasPair a b p) e
 
   -- no pair, so none at a position
-  not-there : (n : ℕ) → hasPair a b p n ≡ false → (i : ℕ) → i < n → (eqb (byteAt p i) a && eqb (byteAt p (i + 1)) b) ≡ false
+  pub not-there : (n : ℕ) → hasPair a b p n ≡ false → (i : ℕ) → i < n → (eqb (byteAt p i) a && eqb (byteAt p (i + 1)) b) ≡ false
   unfolding hasPair
   not-there zero e i h = absurd (not-suc-le-zero h)
   not-there (suc n) e i h = ⊎-elim (λ k. rw k (or-no-right (hasPair a b p n) _ e)) (λ k. not-there n (or-no-left (hasPair a b p n) _ e) i k) (eq-or-lt-of-le (le-of-suc-le-suc h))

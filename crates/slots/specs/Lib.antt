@@ -5,3 +5,4 @@ pub mod Best
 pub mod Starts
 -- private
 pub mod Sweep
+pub mod Passes

@@ -59,7 +59,7 @@ fn may_count(bytes: &[u8], bv: u8, limit: usize, n: u8) -> bool
 
 // Whether n and 0 stand next to each other, the first of them below the limit. No way out but the end: the loop then takes many bytes
 // at a time.
-fn has_count(bytes: &[u8], bv: u8, limit: usize, n: u8) -> bool
+pub(crate) fn has_count(bytes: &[u8], bv: u8, limit: usize, n: u8) -> bool
     requires { ⌜ limit < length (now bytes) ⌝ }
     ensures { λ r. ⌜ r ≡ hasPair n 0 (plainOf bv (now (bytes .entry))) limit ⌝ }
 {

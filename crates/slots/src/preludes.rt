@@ -1,4 +1,5 @@
 // The prelude search: fields that hold the row count, with a slot array behind them.
+use crate::counts::has_count;
 use crate::values::is_offset;
 use crate::values::pair_at;
 use numbers::wide;
@@ -7,6 +8,7 @@ ghost use Prim.Native.Nat.{_+_, _*_, _-_, _<_, _≤_, min};
 ghost use lib.ListN.{length};
 ghost use Rattle.lists.specs.Bytes.{plainOf};
 ghost use Rattle.slots.specs.Slots.{dataEnd, slotsAt, declaredSlots, runOf, whole, longer, firstNoted, noted, gapNoted, several, preludeOf};
+ghost use Rattle.slots.specs.Passes.{Passed, NextField};
 
 // How many slots were read at a place, and how many of them are live.
 pub(crate) struct Run {
@@ -30,18 +32,49 @@ pub fn prelude_candidates(bytes: &[u8], bv: u8, limit: usize, n: u8) -> Prelude
     let count = wide(n);
     let fields = field_end(bytes, limit);
     let mut seen = Prelude::Missing;
-    'fields: for field in 0..fields {
-        if pair_at(bytes, bv, field) != count {
-            continue;
-        }
+    let mut field = next_field(bytes, bv, n, 0, fields);
+    'fields: while field < fields {
         for k in 0..2 {
             seen = note_gap(bytes, bv, count, field, 4 + 2 * k, seen);
             if is_several(seen) {
                 break 'fields;
             }
         }
+        field = next_field(bytes, bv, n, field + 1, fields);
     }
     seen
+}
+
+// The first field from `from` on that holds n, or `end`.
+fn next_field(bytes: &[u8], bv: u8, n: u8, from: usize, end: usize) -> usize
+    requires { ⌜ (from ≤ end) × (end ≤ length (now bytes) - 1) ⌝ }
+    ensures { λ r. ⌜ NextField (plainOf bv (now (bytes .entry))) n from end r ⌝ }
+{
+    let count = wide(n);
+    let mut at = pass_blocks(bytes, bv, n, from, end);
+    while at < end {
+        if pair_at(bytes, bv, at) == count {
+            return at;
+        }
+        at += 1;
+    }
+    at
+}
+
+// Past blocks of 64 fields of which none holds n: most pages have no other.
+fn pass_blocks(bytes: &[u8], bv: u8, n: u8, from: usize, end: usize) -> usize
+    requires { ⌜ (from ≤ end) × (end ≤ length (now bytes) - 1) ⌝ }
+    ensures { λ r. ⌜ Passed (plainOf bv (now (bytes .entry))) n from end r ⌝ }
+{
+    let mut at = from;
+    while at + 64 <= end {
+        let stop = at + 65;
+        if has_count(&bytes[at..stop], bv, 64, n) {
+            return at;
+        }
+        at += 64;
+    }
+    at
 }
 
 // The fields below the limit that have a pair of slots behind them: the others show nothing.

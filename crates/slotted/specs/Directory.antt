@@ -2,8 +2,9 @@
 use Prim.Native.Nat.{ℕ, zero, suc, _+_, _*_, _≤_, _<_}
 use mathlib.Core.List.{List, [], _∷_}
 use mathlib.Core.Bool.{Bool, _&&_}
-use lib.Dec.{ltb, leb}
+use lib.Dec.{ltb, leb, eqb}
 use lib.ListN.{length}
+use Rattle.lists.specs.Cases.{pick}
 use Rattle.lists.specs.Bytes.{pairAt}
 use Rattle.lists.specs.Pieces.{each, keep}
 use Rattle.slotted.specs.declared.verdicts.Inside.{Inside}
@@ -23,6 +24,11 @@ insideOf plain start count = keep (isInside start (start + 2 * count)) (slotsOf 
 abbrev pub tallyOf : List ℕ → Inside
 tallyOf [] = record { first = 0; dropped = 0 }
 tallyOf (v ∷ l) = record { first = v; dropped = length (v ∷ l) }
+
+-- the last live slot, or 0: only private code needs it
+unfoldable pub lastLive : List ℕ → ℕ
+lastLive [] = 0
+lastLive (v ∷ l) = pick (eqb (lastLive l) 0) v (lastLive l)
 
 -- the live slots fall strictly, from below prev
 abbrev pub Falls : ℕ → List ℕ → Type 0

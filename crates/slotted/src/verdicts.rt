@@ -16,7 +16,7 @@ ghost use Rattle.lists.specs.Cases.{pick};
 ghost use Rattle.lists.specs.Bytes.{pairAt};
 ghost use Rattle.slots.specs.Slots.{scannedDirectory};
 ghost use Rattle.slots.specs.declared.preludes.Prelude.the-variants.{Missing};
-ghost use Rattle.slotted.specs.Directory.{isInside, insideOf, tallyOf, Sound};
+ghost use Rattle.slotted.specs.Directory.{slotsOf, isInside, insideOf, tallyOf, lastLive, Sound};
 ghost use Rattle.slotted.specs.Decisions.{answerOf, nothingListed, declaredAt, scannedAs, verdictRefused, verdictTaken, fewOf, reasonOf, unconfirmedOf};
 ghost use Rattle.slotted.specs.Decisions.{manyOf, foundOf, insideChecked, decisionOf};
 
@@ -306,7 +306,7 @@ fn reason(live: usize) -> Reason
     }
 }
 
-// Offsets inside the directory refuse the page, or are dropped with one warning.
+// Offsets inside the directory refuse the page, or are dropped with one warning. They fall, so where the last lies past the end all do.
 fn check_inside(plain: &[u8], lenient: bool, d: Decided) -> Decided
     requires { ⌜ Sound (now plain) (d .listed .start) (d .listed .count) ⌝ }
     ensures { λ r. ⌜ r ≡ insideChecked (now (plain .entry)) lenient d ⌝ }
@@ -314,6 +314,10 @@ fn check_inside(plain: &[u8], lenient: bool, d: Decided) -> Decided
     let listed = d.listed;
     let start = listed.start;
     let count = listed.count;
+    let end = start + 2 * count;
+    if end <= last_live(plain, start, count) {
+        return d;
+    }
     let inside = inside_at(plain, start, count);
     if inside.dropped == 0 {
         return d;
@@ -321,7 +325,7 @@ fn check_inside(plain: &[u8], lenient: bool, d: Decided) -> Decided
     if !lenient {
         return refuse(Verdict::OffsetInside {
             offset: inside.first,
-            end: start + 2 * count,
+            end,
         });
     }
     let verdict = d.verdict;
@@ -336,6 +340,22 @@ fn check_inside(plain: &[u8], lenient: bool, d: Decided) -> Decided
             dropped: inside.dropped,
         },
     }
+}
+
+// From the directory's far end the first slot that is not deleted; 0 where there is none.
+fn last_live(plain: &[u8], start: usize, count: usize) -> usize
+    requires { ⌜ start + 2 * count ≤ length (now plain) ⌝ }
+    ensures { λ r. ⌜ r ≡ lastLive (slotsOf (now (plain .entry)) start count) ⌝ }
+{
+    let mut k = count;
+    while 0 < k {
+        k -= 1;
+        let v = slot_at(plain, start + 2 * k) as usize;
+        if v != 0 {
+            return v;
+        }
+    }
+    0
 }
 
 fn inside_at(plain: &[u8], start: usize, count: usize) -> Inside

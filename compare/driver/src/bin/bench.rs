@@ -12,6 +12,12 @@ use compare::timing::{Group, table, time};
 use lumeviqo::{Fits, Leniency, PAGE, SHIFTED};
 use oracle::{Reading, timed};
 
+/// The limits of a parse, by its pages: exact, dense, mixed; 0, 50 and 200 rows; 384 falling slots, random, all zero. Those of all rows: 50 and
+/// 200 rows, 384 falling slots. Where a prelude confirms the rows the original has little to do, and that is what the reader must not be slower than.
+const STRICT_PARSE: [f64; 9] = [0.87, 0.62, 0.21, 0.51, 1.0, 1.0, 0.0044, 0.61, 0.77];
+const DIRECTORY_PARSE: [f64; 9] = [0.88, 0.62, 0.21, 0.50, 1.0, 1.0, 0.0067, 0.61, 0.77];
+const ALL_ROWS: [f64; 3] = [0.6, 0.6, 0.0082];
+
 fn main() -> ExitCode {
     let mut args = std::env::args().skip(1);
     let report = PathBuf::from(args.next().expect("REPORT is the program report"));
@@ -29,10 +35,12 @@ fn main() -> ExitCode {
     groups.extend(stored.iter().map(scan));
     groups.extend(stored.iter().map(decode));
     groups.extend(stored.iter().map(supplied));
-    for (question, leniency) in [("parse, strict", Leniency::STRICT), ("parse, DIRECTORY", Leniency::DIRECTORY)] {
-        groups.extend(stored.iter().chain(&plain).map(|pages| parse(question, pages, leniency)));
+    for (question, leniency, limits) in
+        [("parse, strict", Leniency::STRICT, STRICT_PARSE), ("parse, DIRECTORY", Leniency::DIRECTORY, DIRECTORY_PARSE)]
+    {
+        groups.extend(stored.iter().chain(&plain).zip(limits).map(|(pages, limit)| parse(question, pages, leniency, limit)));
     }
-    groups.extend(plain[1..4].iter().map(rows));
+    groups.extend(plain[1..4].iter().zip(ALL_ROWS).map(|(pages, limit)| rows(pages, limit)));
     groups.push(reports(&frames, &report));
     time(&mut groups, rounds);
 
@@ -117,21 +125,21 @@ fn supplied(pages: &Pages) -> Group<'_> {
     g
 }
 
-fn parse<'a>(question: &'static str, pages: &'a Pages, leniency: Leniency) -> Group<'a> {
+fn parse<'a>(question: &'static str, pages: &'a Pages, leniency: Leniency, limit: f64) -> Group<'a> {
     let p = &pages.plain;
     let mut g = Group::default();
     let reader = each(&mut g, move |k| drop(black_box(lumeviqo::parse(k as u64, &p[k], leniency))));
     let original = each(&mut g, move |k| timed::parse(k as u64, &p[k], leniency.0));
-    g.ratio(question, pages.name, reader, original, None);
+    g.ratio(question, pages.name, reader, original, Some(limit));
     g
 }
 
-fn rows(pages: &Pages) -> Group<'_> {
+fn rows(pages: &Pages, limit: f64) -> Group<'_> {
     let p = &pages.plain;
     let mut g = Group::default();
     let reader = each(&mut g, |k| drop(black_box(lumeviqo::rows(k as u64, &p[k], Leniency::DIRECTORY))));
     let original = each(&mut g, |k| timed::rows(k as u64, &p[k], Leniency::DIRECTORY.0));
-    g.ratio("list of all rows, DIRECTORY", pages.name, reader, original, None);
+    g.ratio("list of all rows, DIRECTORY", pages.name, reader, original, Some(limit));
     g
 }
 

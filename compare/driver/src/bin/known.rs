@@ -74,7 +74,7 @@ fn records(plain: &[u8]) -> String {
 
 fn refused(r: Refusal) -> String {
     let answer = numbered(r.number, &r.values);
-    format!("{answer} warnings rows then{answer}")
+    format!("{answer} warnings rows then{answer} starts 9 9 of{answer} 0")
 }
 
 fn parsed(p: Parsed) -> String {
@@ -87,7 +87,9 @@ fn parsed(p: Parsed) -> String {
     p.warnings.iter().for_each(|w| out += &numbered(w.number, &w.values));
     out += " rows";
     p.rows.iter().for_each(|r| out += &format!(" {} {}", r.offset, r.bytes.len()));
-    out + &format!(" then 16 {}", p.rows.len())
+    let mut starts = [9; 2];
+    starts.iter_mut().zip(&p.rows).for_each(|(place, r)| *place = r.offset);
+    out + &format!(" then 16 {0} starts {1} {2} of 0 {0}", p.rows.len(), starts[0], starts[1])
 }
 
 fn numbered(number: u8, values: &[u64]) -> String {

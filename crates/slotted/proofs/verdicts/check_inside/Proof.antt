@@ -2,6 +2,7 @@
 use borrow.Author.Tests.{not-true, not-false}
 use mathlib.Core.Path.{_∙_}
 use Rattle.slotted.specs.Directory.{insideOf}
+use Rattle.slotted.proofs.LastLive.{last-past}
 use Rattle.slotted.proofs.Decisions.{checked-none, checked-refused, checked-dropped}
 use borrow.Author.Needs.{needs}
 use Rattle.slotted.proofs.verdicts.check_inside.Statement.{statement}
@@ -9,32 +10,41 @@ use Rattle.slotted.proofs.verdicts.check_inside.Tie as tie
 
 returns : tie.Need-returns
 returns c =
-    let i = c .before .before in
-    let a = i .before .before .before .args in
-    checked-none (a .lenient) (a .d) _ (insideOf (a .plain .now) _ _) (i .inside-at .result) (i .inside-at .ensures) (c .if1 .taken)
+    let l = c .before in
+    let s = l .before .before .before in
+    let a = s .args in
+    last-past (a .plain .now) (a .lenient) (a .d) (l .last-live .result) (s .pre) (l .last-live .ensures) (c .if1 .taken)
 
 returns-2 : tie.Need-returns-2
 returns-2 c =
-    let i = c .before .before .before .before in
-    let a = i .before .before .before .args in
-    c .refuse .ensures ∙ checked-refused (a .lenient) (a .d) _ (insideOf (a .plain .now) _ _) (i .inside-at .result) (i .inside-at .ensures)
-    (c .before .before .if1 .left) (not-true (a .lenient) (c .before .if2 .taken))
+    let i = c .before .before in
+    let a = i .before .before .before .before .before .args in
+    checked-none (a .lenient) (a .d) _ (insideOf (a .plain .now) _ _) (i .inside-at .result) (i .inside-at .ensures) (c .if2 .taken)
 
 returns-3 : tie.Need-returns-3
 returns-3 c =
+    let i = c .before .before .before .before in
+    let a = i .before .before .before .before .before .args in
+    c .refuse .ensures ∙ checked-refused (a .lenient) (a .d) _ (insideOf (a .plain .now) _ _) (i .inside-at .result) (i .inside-at .ensures)
+    (c .before .before .if2 .left) (not-true (a .lenient) (c .before .if3 .taken))
+
+returns-4 : tie.Need-returns-4
+returns-4 c =
     let i = c .before .before .before in
-    let a = i .before .before .before .args in
+    let a = i .before .before .before .before .before .args in
     checked-dropped (a .lenient) (a .d) _ (insideOf (a .plain .now) _ _) (i .inside-at .result) (i .inside-at .ensures)
-    (c .before .if1 .left) (not-false (a .lenient) (c .if2 .left))
+    (c .before .if2 .left) (not-false (a .lenient) (c .if3 .left))
 
 pub check-inside-spec : {M : Type 1} → statement M
 check-inside-spec =
     tie.close
     (tie.spec
+    (λ c. search needs)
+    (λ c. search needs)
     (λ c κs. search needs)
     returns
-    (λ c. search needs)
-    (λ c. search needs)
     (λ c κs. search needs)
     returns-2
-    returns-3)
+    (λ c κs. search needs)
+    returns-3
+    returns-4)
