@@ -290,6 +290,10 @@ size_t lumeviqo_decode_supplied_summary(uint64_t number, const uint8_t *stored, 
                                         uint8_t leniency, uint8_t min_trailer_count, uint8_t *out, size_t out_length,
                                         uint8_t *answer, size_t answer_length);
 
+/* Slots and rows. Each of the four functions looks for the slot directory anew, and reads it where it stands in `plain`: nothing is copied
+   or sorted in between, and none of them needs more than 1,500 bytes of stack. To see all rows, ask lumeviqo_rows once, not lumeviqo_row
+   for each. */
+
 /* The slot directory of a plain page. Refuses: 1, 8 to 12. Layout Parse. */
 size_t lumeviqo_parse(uint64_t number, const uint8_t *plain, size_t plain_length, uint8_t leniency, uint8_t *answer,
                       size_t answer_length);
@@ -302,7 +306,7 @@ size_t lumeviqo_row_count(uint64_t number, const uint8_t *plain, size_t plain_le
 size_t lumeviqo_row(uint64_t number, const uint8_t *plain, size_t plain_length, uint8_t leniency, size_t row, uint8_t *answer,
                     size_t answer_length);
 
-/* Where all rows of a plain page lie, in one pass. Refuses: 1, 8 to 12. Layout Rows. */
+/* Where all rows of a plain page lie, in one pass from the directory's far end. Refuses: 1, 8 to 12. Layout Rows. */
 size_t lumeviqo_rows(uint64_t number, const uint8_t *plain, size_t plain_length, uint8_t leniency, uint8_t *answer,
                      size_t answer_length);
 

@@ -271,7 +271,7 @@ typedef struct {
 
 enum { MOST_RUNS = 2 };
 
-/* How a page is made, then what must be found: the strict answer, and what a lenient reading gives, as a strict one does that accepts. */
+/* How a page is made, then what must be found: the strict answer, and what a lenient reading finds, and a strict one where it accepts. */
 typedef struct {
     const char *pages;
     uint8_t count;
@@ -627,7 +627,10 @@ static void print_lines(void) {
     printf("\n| most bytes, by pages |");
     for (int k = PARSE; k < FUNCTIONS; k++)
         printf(" %s |", functions[k].name);
-    printf("\n|---|---|---|---|---|\n");
+    printf("\n|---|");
+    for (int k = PARSE; k < FUNCTIONS; k++)
+        printf("---|");
+    printf("\n");
     for (size_t line = 0; line < line_count; line++) {
         printf("| %s |", lines[line].pages);
         for (size_t k = 0; k < LINE_FIGURES; k++)

@@ -38,6 +38,7 @@ single-outcome =
         both (p .told .bytes) (q .told .bytes) i,
         both (p .told .place) (q .told .place) i,
       );
+      starts = λ lim number plain lenient starts x y p q. λ i. (both (p .counted) (q .counted) i, both (p .written) (q .written) i);
       part = same-part;
       row = λ s a v w g h.
           record {

@@ -100,7 +100,7 @@ pub record NoDirectory (p : Parsed) : Type 0 where
   pub blank : p .directory ≡ record { «array_start» = 0; end = 0; slots = slotted.tableOf []; len = 0; declared = Scanned }
   pub warnings : p .warnings ≡ noParseWarnings
 
--- nor has what is said of it in a small value
+-- nor has the small value
 pub record NothingLocated (l : Located) : Type 0 where
   pub none : l .listed ≡ nothingListed
   pub warnings : l .warnings ≡ record { len = 0; first = blankWarning; second = blankWarning; third = blankWarning }

@@ -9,7 +9,9 @@ use Rattle.sector.specs.declared.fits.Fit.{Fit}
 use Rattle.summary.specs.Replace.{Renews}
 use Rattle.summary.specs.declared.replacing.Changed.{Changed}
 use Rattle.rows.specs.Rows.{IsPart, IsRow}
+use Rattle.rows.specs.RowAnswers.{StartsWritten}
 use Rattle.rows.specs.declared.spans.Row.{Row}
+use Rattle.rows.specs.declared.spans.RowsCounted.{RowsCounted}
 use Rattle.rows.specs.declared.spans.Span.{Span}
 use Rattle.verdict.specs.declared.Decoding.{Decoding}
 use Rattle.numbers.specs.Writes.{Wrote}
@@ -51,6 +53,10 @@ pub record SingleOutcome : Type 1 where
   pub decoding-call :
       (lent : Bool) (d : Decoding) (stored shifted out answer : List ℕ)
       → Single (λ (o : List ℕ × List ℕ × ℕ). DecodingCall lent d stored shifted out (o .0) answer (o .1) (o .2))
+  -- `row_starts`: its result, and the lent buffer
+  pub starts :
+      (lim number : ℕ) (plain : List ℕ) (lenient : Bool) (starts : List ℕ)
+      → Single (λ (o : RowsCounted × List ℕ). StartsWritten lim number plain lenient starts (o .1) (o .0))
   -- `row_bytes` and `row_at`
   pub part : (s : RefT (List ℕ)) (a : Span) (p q : RefT (List ℕ)) → IsPart s p a → IsPart s q a → SamePart p q
   pub row : (s : RefT (List ℕ)) (a : Span) (v w : Row) → IsRow s a v → IsRow s a w → SameRow v w

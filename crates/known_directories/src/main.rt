@@ -132,12 +132,17 @@ fn list(plain: &[u8], options: Options) {
     answer(rows::row_answer(7, plain, options, count));
 }
 
+// An offset in the page.
+fn place(at: u16) {
+    number(at as u64);
+}
+
 // Where the first two rows start, in a buffer that has room for no more and held 9, then what is answered beside it.
 fn two_starts(plain: &[u8], options: Options) {
     let mut starts = [9u16; 2];
     let counted = rows::row_starts(7, plain, options, &mut starts);
-    number(starts[0] as u64);
-    number(starts[1] as u64);
+    place(starts[0]);
+    place(starts[1]);
     text(b" of");
     let a = counted.answer;
     answer(a);

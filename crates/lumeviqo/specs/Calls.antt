@@ -16,7 +16,7 @@ use Rattle.rows.specs.RowAnswers.{rowsOf, rowOf, rowAnswerOf}
 use Rattle.numbers.specs.Writes.{Wrote}
 use Rattle.parts.specs.Lent.{isLent, fitsIn}
 use Rattle.layout.specs.Layouts.{scanSize, scanBytes, replacementBytes, decodingSize, decodingBytes}
-use Rattle.row_layout.specs.RowLayouts.{parseBytes, rowCountBytes, rowBytes, rowsBytes}
+use Rattle.row_layout.specs.RowLayouts.{parseBytes, rowCountBytes, rowBytes, pageRowsBytes}
 use Rattle.slots.specs.Slots.{searchLimit}
 
 -- a buffer has room for a layout of n bytes
@@ -80,5 +80,4 @@ rowTold number plain leniency row =
     rowBytes (rowAnswerOf searchLimit number plain (hasDirectory leniency) row) (rowOf searchLimit plain (hasDirectory leniency) row)
 
 abbrev pub rowsTold : ℕ → List ℕ → ℕ → List ℕ
-rowsTold number plain leniency =
-    rowsBytes (parsedOf searchLimit number plain (hasDirectory leniency) .answer) (rowsOf searchLimit plain (hasDirectory leniency))
+rowsTold number plain leniency = pageRowsBytes searchLimit number plain (hasDirectory leniency)

@@ -1,6 +1,6 @@
 -- Numbers as bytes, over the width: how many bytes, and that they read back. Assumes nothing.
 use Prim.Native.Nat.{ℕ, zero, suc, _+_, _*_, _/_, _%_, _<_}
-use mathlib.Core.Path.{_≡_, refl, ap, _∙_}
+use mathlib.Core.Path.{_≡_, refl, ap, ap₂, _∙_}
 use mathlib.Core.List.{List, [], _∷_, _++_}
 use native.Mathlib.Omega.{arith}
 use lib.ListN.{length, length-append}
@@ -47,6 +47,16 @@ little-low n = ap (λ (b : ℕ). b ∷ []) (omega arith)
 pub two-little : (a b : ℕ) → littleEndian (a ∷ b ∷ []) ≡ twoBytes a b
 unfolding littleEndian
 two-little a b = omega arith
+
+pair-low : (a b : ℕ) → a < 256 → (a + 256 * b) % 256 ≡ a
+pair-low a b h = omega arith
+
+pair-high : (a b : ℕ) → a < 256 → b < 256 → (a + 256 * b) / 256 % 256 ≡ b
+pair-high a b h k = omega arith
+
+pub little-pair : (a b : ℕ) → a < 256 → b < 256 → littleBytes 2 (a + 256 * b) ≡ a ∷ b ∷ []
+unfolding littleBytes
+little-pair a b h k = ap₂ (λ (x y : ℕ). x ∷ y ∷ []) (pair-low a b h) (pair-high a b h k)
 
 pub four-little : (a b c d : ℕ) → littleEndian (a ∷ b ∷ c ∷ d ∷ []) ≡ fourBytes a b c d
 unfolding littleEndian

@@ -1,7 +1,7 @@
 -- How many bytes the layouts take, whatever they hold. Assumes nothing.
 use Prim.Native.Nat.{ℕ, _+_}
 use mathlib.Core.Path.{_≡_, refl}
-use mathlib.Core.List.{List, [], _∷_, _++_}
+use mathlib.Core.List.{List, _++_}
 use native.Mathlib.Omega.{arith}
 use Rattle.answers.specs.declared.kinds.Answer.{Answer}
 use Rattle.slotted.specs.declared.verdicts.Listed.{Listed}

@@ -9,9 +9,10 @@ use Rattle.lists.specs.Bytes.{byteAt, pairAt}
 use Rattle.lists.specs.Pieces.{joined}
 use Rattle.lists.proofs.Each.{each-length, each-at}
 use Rattle.lists.proofs.Filled.{take-more}
+use Rattle.lists.proofs.Zeros.{zeros-two, zeros-at}
 use Rattle.numbers.specs.Numbers.{littleBytes}
 use Rattle.numbers.specs.Writes.{Wrote}
-use Rattle.numbers.proofs.Widths.{little-long}
+use Rattle.numbers.proofs.Widths.{little-long, little-pair}
 use Rattle.numbers.proofs.Stored.{stores, storesFrom, wrote-stored, wrote-same}
 use Rattle.numbers.proofs.Kept.{wrote-then, wrote-earlier}
 use Rattle.slotted.specs.Directory.{slotsOf}
@@ -49,30 +50,13 @@ module _ (slots l : List ℕ) (a : ℕ) where
       subst (λ (n : ℕ). Put l a (joined (slotEntry slots) (s + 1)) after n) e
       (table-more (slotEntry slots) q (put-field (stored o p v h) put-none))
 
--- the bytes of a pair
-pair-low : (a b : ℕ) → a < 256 → (a + 256 * b) % 256 ≡ a
-pair-low a b h = omega arith
-
-pair-high : (a b : ℕ) → a < 256 → b < 256 → (a + 256 * b) / 256 % 256 ≡ b
-pair-high a b h k = omega arith
-
 -- ---- a table of which m places are used, and zeros behind them
-
-zeros-last : (n : ℕ) → replicate {A = ℕ} n 0 ++ (0 ∷ []) ≡ 0 ∷ replicate n 0
-zeros-last zero = refl
-zeros-last (suc n) = ap (λ (l : List ℕ). 0 ∷ l) (zeros-last n)
-
-zeros-two : (n : ℕ) → replicate {A = ℕ} n 0 ++ (0 ∷ 0 ∷ []) ≡ replicate (suc (suc n)) 0
-zeros-two n =
-    sym (append-assoc (replicate n 0) (0 ∷ []) (0 ∷ []))
-    ∙ ap (λ (l : List ℕ). l ++ (0 ∷ [])) (zeros-last n)
-    ∙ ap (λ (l : List ℕ). 0 ∷ l) (zeros-last n)
 
 module _ (t : List ℕ) where
   -- the bytes of an entry
-  entry-bytes : (k : ℕ) → layoutBytes (slotEntry t k) ≡ byteAt t k % 256 ∷ byteAt t k / 256 % 256 ∷ []
-  unfolding layoutBytes fieldBytes littleBytes
-  entry-bytes k = refl
+  entry-bytes : (k : ℕ) → layoutBytes (slotEntry t k) ≡ littleBytes 2 (byteAt t k)
+  unfolding layoutBytes fieldBytes
+  entry-bytes k = append-nil (littleBytes 2 (byteAt t k))
 
   one-more : (n : ℕ) → layoutBytes (joined (slotEntry t) (suc n)) ≡ layoutBytes (joined (slotEntry t) n) ++ layoutBytes (slotEntry t n)
   unfolding joined
@@ -89,7 +73,8 @@ module _ (t : List ℕ) where
       let e : m + suc j ≡ suc (m + j) = omega arith in
       let f : suc (suc (2 * j)) ≡ 2 * suc j = omega arith in
       let front : List ℕ = layoutBytes (joined (slotEntry t) m) in
-      let none : layoutBytes (slotEntry t (m + j)) ≡ 0 ∷ 0 ∷ [] = entry-bytes (m + j) ∙ ap (λ (v : ℕ). v % 256 ∷ v / 256 % 256 ∷ []) (z (m + j) (omega arith)) in
+      let none : layoutBytes (slotEntry t (m + j)) ≡ 0 ∷ 0 ∷ [] =
+      entry-bytes (m + j) ∙ ap (littleBytes 2) (z (m + j) (omega arith)) ∙ little-pair 0 0 (omega arith) (omega arith) in
       ap (λ (n : ℕ). layoutBytes (joined (slotEntry t) n)) e
       ∙ one-more (m + j)
       ∙ ap₂ (λ (u v : List ℕ). u ++ v) (zeros-behind m j z) none
@@ -134,12 +119,10 @@ module _ (t : List ℕ) where
         let a : ℕ = byteAt plain (start + 2 * m) in
         let b : ℕ = byteAt plain (start + 2 * m + 1) in
         let v : byteAt t m ≡ a + 256 * b = e m (omega arith) in
-        let low : byteAt t m % 256 ≡ a = ap (λ (n : ℕ). n % 256) v ∙ pair-low a b (bytes (start + 2 * m)) in
-        let high : byteAt t m / 256 % 256 ≡ b = ap (λ (n : ℕ). n / 256 % 256) v ∙ pair-high a b (bytes (start + 2 * m)) (bytes (start + 2 * m + 1)) in
         let two : 2 * m + 2 ≡ 2 * suc m = omega arith in
         one-more m
         ∙ ap₂ (λ (u w : List ℕ). u ++ w) (page-bytes m (omega arith) (λ k l. e k (omega arith)))
-        (entry-bytes m ∙ ap₂ (λ (x y : ℕ). x ∷ y ∷ []) low high)
+        (entry-bytes m ∙ ap (littleBytes 2) v ∙ little-pair a b (bytes (start + 2 * m)) (bytes (start + 2 * m + 1)))
         ∙ sym (two-more (2 * m) (omega arith))
         ∙ ap (λ (k : ℕ). take k (drop start plain)) two
 
@@ -159,15 +142,10 @@ module _ (plain : List ℕ) (start count : ℕ) (few : count ≤ 384) where
   table-at k h =
       List·getD-append slots (replicate (384 - length slots) 0) 0 k (omega (arith, many)) ∙ each-at (λ j. pairAt plain (start + 2 * j)) count k 0 h
 
-  zero-any : (n k : ℕ) → byteAt (replicate n 0) k ≡ 0
-  zero-any zero k = refl
-  zero-any (suc n) zero = refl
-  zero-any (suc n) (suc k) = zero-any n k
-
   table-behind : (k : ℕ) → count ≤ k → byteAt (tableOf slots) k ≡ 0
   table-behind k h =
       let e : k ≡ length slots + (k - count) = omega (arith, many) in
-      ap (byteAt (tableOf slots)) e ∙ getD-append-add slots (replicate (384 - length slots) 0) (k - count) 0 ∙ zero-any (384 - length slots) (k - count)
+      ap (byteAt (tableOf slots)) e ∙ getD-append-add slots (replicate (384 - length slots) 0) (k - count) 0 ∙ zeros-at (384 - length slots) (k - count)
 
   pub slots-padded :
       (part : List ℕ)

@@ -1,6 +1,6 @@
 -- A parse and all rows as wholes: what is put from the page, part behind part, is their layout. Assumes nothing.
 use Prim.Native.Nat.{ℕ, _+_, _-_, _*_, _≤_, _<_}
-use mathlib.Core.Path.{_≡_, refl, sym, ap, ap₂, subst, _∙_}
+use mathlib.Core.Path.{_≡_, sym, ap, ap₂, subst, _∙_}
 use mathlib.Core.Bool.{Bool}
 use mathlib.Core.List.{List, [], _∷_, _++_}
 use native.Mathlib.Omega.{arith}
@@ -24,11 +24,11 @@ use Rattle.rows.specs.Rows.{rowsAt}
 use Rattle.rows.specs.RowAnswers.{rowsOf}
 use Rattle.numbers.specs.Writes.{Wrote}
 use Rattle.numbers.proofs.Stored.{wrote-same}
-use Rattle.fields.specs.Fields.{Field, little, sizeOf, layoutBytes, Put}
+use Rattle.fields.specs.Fields.{Field, little, layoutBytes, Put}
 use Rattle.fields.proofs.Puts.{put-then, put-whole, layout-put}
-use Rattle.parts.specs.Parts.{answerFields, warningFields, warningEntry, warningsFields}
+use Rattle.parts.specs.Parts.{answerFields, warningFields, warningsFields}
 use Rattle.parts.proofs.Sizes.{answer-size}
-use Rattle.row_layout.specs.RowLayouts.{declaredFlag, declaredCount, directoryFields, slotsFields, slotsSize, parseFields, parseSize, parseBytes, listFields, rowsFields, rowsSize, rowsBytes}
+use Rattle.row_layout.specs.RowLayouts.{declaredFlag, declaredCount, directoryFields, slotsFields, parseFields, parseSize, parseBytes, listFields, rowsFields, rowsSize, rowsBytes, pageRowsBytes}
 use Rattle.row_layout.specs.FromPage.{listedFields, paddedSlots, givenFields}
 use Rattle.row_layout.proofs.Sizes.{slots-size, parse-head-size, parse-size, list-size, rows-size}
 use Rattle.row_layout.proofs.Slots.{slots-padded}
@@ -117,7 +117,7 @@ module _ (number : ℕ) (plain : List ℕ) (lenient : Bool) (bytes : (i : ℕ) �
       → Put out 0 (answerFields (l .answer)) first p
       → Wrote first p (layoutBytes (listFields (rowsAt plain start count))) after next
       → rowsSize ≤ length out
-      → Wrote out 0 (rowsBytes (parsedOf searchLimit number plain lenient .answer) (rowsOf searchLimit plain lenient)) after next
+      → Wrote out 0 (pageRowsBytes searchLimit number plain lenient) after next
   unfolding rowsFields
   rows-written {out} {first} {after} {p} {next} a w room =
       let same : rowsAt plain start count ≡ rowsOf searchLimit plain lenient = located-rows in

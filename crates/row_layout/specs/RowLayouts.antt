@@ -11,7 +11,9 @@ use Rattle.slotted.specs.declared.verdicts.Declared.{Declared}
 use Rattle.slotted.specs.declared.verdicts.Declared.the-variants.{Count, Scanned}
 use Rattle.slotted.specs.declared.directories.SlotDirectory.{SlotDirectory}
 use Rattle.slotted.specs.declared.directories.Parsed.{Parsed}
+use Rattle.slotted.specs.Parses.{parsedOf}
 use Rattle.rows.specs.Rows.{startOf, endOf}
+use Rattle.rows.specs.RowAnswers.{rowsOf}
 use Rattle.rows.specs.declared.spans.Span.{Span}
 use Rattle.fields.specs.Fields.{Field, little, layoutBytes}
 use Rattle.parts.specs.Parts.{answerSize, answerFields, warningSize, warningsFields}
@@ -94,3 +96,7 @@ rowsSize = answerSize + 2 + slotsSize
 
 abbrev pub rowsBytes : Answer → List ℕ → List ℕ
 rowsBytes x rows = layoutBytes (rowsFields x rows)
+
+-- those of a page, beside the parse's answer
+abbrev pub pageRowsBytes : ℕ → ℕ → List ℕ → Bool → List ℕ
+pageRowsBytes lim number plain lenient = rowsBytes (parsedOf lim number plain lenient .answer) (rowsOf lim plain lenient)

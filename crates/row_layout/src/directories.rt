@@ -51,13 +51,13 @@ fn put_directory(out: &mut [u8], at: usize, l: Listed, end: usize) -> usize
 {
     let declared = l.declared;
     let is_declared = declared_flag(declared);
-    let count = declared_count(declared);
+    let declared_number = declared_count(declared);
     let at = put_bool(out, at, l.found);
     let at = put_size16(out, at, l.start);
     let at = put_size16(out, at, end);
     let at = put_size16(out, at, l.count);
     let at = put_u8(out, at, is_declared);
-    put_size16(out, at, count)
+    put_size16(out, at, declared_number)
 }
 
 // In the page a slot stands as in the layout, two bytes with the least first, so all are copied at once.

@@ -12,4 +12,4 @@ pub use listings::write_row;
 pub use listings::write_row_count;
 pub use listings::write_rows;
 
-pub const SLOTS_SIZE: usize = 384 * 2;
+pub(crate) const SLOTS_SIZE: usize = 384 * 2;

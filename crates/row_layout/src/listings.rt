@@ -1,18 +1,15 @@
 // A number of rows, a row and all rows.
 ghost use mathlib.Core.Path.{_≡_};
-ghost use mathlib.Core.List.{_∷_};
-ghost use Prim.Native.Nat.{_+_, _*_, _≤_};
+ghost use Prim.Native.Nat.{_+_, _≤_};
 ghost use lib.ListN.{length};
-ghost use Rattle.lists.specs.Pieces.{joined};
 ghost use Rattle.numbers.specs.Writes.{Wrote};
-ghost use Rattle.fields.specs.Fields.{Put, layoutBytes};
+ghost use Rattle.fields.specs.Fields.{layoutBytes};
 ghost use Rattle.answers.specs.Settings.{directory};
 ghost use Rattle.slots.specs.Slots.{searchLimit};
 ghost use Rattle.slotted.specs.Directory.{Sound};
-ghost use Rattle.slotted.specs.Parses.{parsedOf};
 ghost use Rattle.rows.specs.Rows.{rowsAt, startOf, endOf};
-ghost use Rattle.rows.specs.RowAnswers.{rowsOf};
-ghost use Rattle.row_layout.specs.RowLayouts.{slotEntry, slotsSize, rowCountBytes, rowBytes, listFields, rowsBytes};
+ghost use Rattle.row_layout.specs.RowLayouts.{slotsSize, rowCountBytes, rowBytes, listFields, pageRowsBytes};
+ghost use Rattle.row_layout.specs.FromPage.{StartsPut};
 use crate::SLOTS_SIZE;
 use answers::Answer;
 use answers::Options;
@@ -59,7 +56,7 @@ pub fn write_row(out: &mut [u8], x: Answer, s: Span) -> usize
 
 // How many rows, and where each starts, straight from the page.
 pub fn write_rows(out: &mut [u8], number: u64, plain: &[u8], options: Options) -> usize
-    ensures { λ r. ⌜ Wrote (now (out .entry)) 0 (rowsBytes (parsedOf searchLimit number (now (plain .entry)) (directory options) .answer) (rowsOf searchLimit (now (plain .entry)) (directory options))) (now (out .exit)) r ⌝ }
+    ensures { λ r. ⌜ Wrote (now (out .entry)) 0 (pageRowsBytes searchLimit number (now (plain .entry)) (directory options)) (now (out .exit)) r ⌝ }
 {
     if out.len() < ROWS_SIZE {
         return 0;
@@ -92,7 +89,7 @@ fn put_rows(out: &mut [u8], at: usize, plain: &[u8], start: usize, count: usize)
 // From the directory's far end the kept offsets ascend. It returns how many they are.
 fn put_starts(out: &mut [u8], at: usize, plain: &[u8], start: usize, count: usize) -> usize
     requires { ⌜ Sound (now plain) start count × (count ≤ 384) × (at + slotsSize ≤ length (now out)) ⌝ }
-    ensures { λ n. ⌜ (n ≡ length (rowsAt (now (plain .entry)) start count)) × (n ≤ 384) × Put (now (out .entry)) at (joined (slotEntry (rowsAt (now (plain .entry)) start count)) n) (now (out .exit)) (at + 2 * n) ⌝ }
+    ensures { λ n. ⌜ StartsPut (rowsAt (now (plain .entry)) start count) (now (out .entry)) at (now (out .exit)) n ⌝ }
 {
     let stop = start + 2 * count;
     let mut rows: usize = 0;

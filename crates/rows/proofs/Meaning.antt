@@ -96,6 +96,14 @@ unfolding ascending count
 ascending-count v [] = refl
 ascending-count v (x ∷ l) = insert-count leb v x (ascending l) ∙ ap (λ (n : ℕ). flag (eqb v x) + n) (ascending-count v l)
 
+-- the rows are what is read from the directory's far end
+pub far-end :
+    (lim : ℕ) (plain : List ℕ) (lenient : Bool)
+    → let l : Listed = decisionOf lim plain lenient .listed in
+    rowsOf lim plain lenient ≡ fromEnd plain (l .start) (l .start + 2 * l .count) (l .count)
+unfolding rowsOf
+far-end lim plain lenient = rows-end plain _ _ (decided-sound lim plain lenient .falls)
+
 -- read from its far end, a directory lists the kept offsets in ascending order, each once
 pub far-end-lists :
     (lim : ℕ) (plain : List ℕ) (lenient : Bool)

@@ -1,7 +1,7 @@
 -- Laws of where the rows start, as they are listed from the directory's far end into a lent buffer. Assumes nothing.
 use Prim.Native.Nat.{ℕ, suc, _+_, _-_, _*_, _≤_, _<_}
 use mathlib.Core.Path.{_≡_, refl, sym, ap, _∙_}
-use mathlib.Core.List.{List, [], _∷_}
+use mathlib.Core.List.{List, _∷_}
 use mathlib.Core.Bool.{Bool, true, false}
 use native.Mathlib.Omega.{arith}
 use lib.ListN.{length, take, drop, getD, set, length-take, length-drop}
@@ -17,7 +17,7 @@ use Rattle.slotted.specs.Parses.{parsedOf}
 use Rattle.slotted.specs.declared.verdicts.Decided.{Decided}
 use Rattle.slotted.proofs.Parses.{answer-is}
 use Rattle.rows.specs.Rows.{isKept, rowsAt, fromEnd}
-use Rattle.rows.specs.RowAnswers.{rowsIn, rowsOf, startsIn, StartsWritten}
+use Rattle.rows.specs.RowAnswers.{rowsIn, rowsOf, startsIn, StartsWritten, StartsListed}
 use Rattle.rows.proofs.FarEnd.{rows-end, end-kept, end-not}
 use Rattle.rows.proofs.RowAnswers.{rows-decided}
 
@@ -95,18 +95,18 @@ module _ (rows l : List ℕ) where
         let n : length src ≤ len = omega (arith, length-take (length l) rows, starts-long) in
         o ∙ ap (over l 0) (take-all len src n ∙ sym (take-all (len + 1) src (omega arith)))
 
-    pub starts-all : len ≡ length rows → out ≡ startsIn rows l
-    starts-all e = o ∙ fill-all l src 0 len (omega (arith, length-take (length l) rows))
+    pub starts-done : len ≡ length rows → out ≡ startsIn rows l
+    starts-done e = o ∙ fill-all l src 0 len (omega (arith, length-take (length l) rows))
 
 -- the whole, of a decision
 pub starts-decided :
     (lim number : ℕ) (plain : List ℕ) (lenient : Bool) (d : Decided) (x : Answer) (n : ℕ) (l out : List ℕ)
     → d ≡ decisionOf lim plain lenient
     → x ≡ answerOf number (d .verdict)
-    → (n ≡ length (rowsIn plain (d .listed))) × (out ≡ startsIn (rowsIn plain (d .listed)) l)
+    → StartsListed (rowsIn plain (d .listed)) l out n
     → StartsWritten lim number plain lenient l out (record { answer = x; rows = n })
 starts-decided lim number plain lenient d x n l out e ex w =
     let same : rowsIn plain (d .listed) ≡ rowsOf lim plain lenient = rows-decided lim plain lenient d e in
     let answered : x ≡ parsedOf lim number plain lenient .answer = answer-is lim number plain lenient d e x ex in
-    let many : n ≡ length (rowsOf lim plain lenient) = w .0 ∙ ap length same in
-    record { counted = λ i. record { answer = answered i; rows = many i }; written = w .1 ∙ ap (λ (rows : List ℕ). startsIn rows l) same }
+    let many : n ≡ length (rowsOf lim plain lenient) = w .many ∙ ap length same in
+    record { counted = λ i. record { answer = answered i; rows = many i }; written = w .written ∙ ap (λ (rows : List ℕ). startsIn rows l) same }

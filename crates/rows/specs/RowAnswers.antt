@@ -55,6 +55,12 @@ rowsCountedOf lim number plain lenient = record { answer = parsedOf lim number p
 abbrev pub startsIn : List ℕ → List ℕ → List ℕ
 startsIn rows starts = over starts 0 (take (length starts) rows)
 
+-- what `row_starts` answers, and leaves in the buffer
 pub record StartsWritten (lim number : ℕ) (plain : List ℕ) (lenient : Bool) (starts startsAtExit : List ℕ) (n : RowsCounted) : Type 0 where
   pub counted : n ≡ rowsCountedOf lim number plain lenient
   pub written : startsAtExit ≡ startsIn (rowsOf lim plain lenient) starts
+
+-- the same of a directory's rows; only private code needs it
+pub record StartsListed (rows starts startsAtExit : List ℕ) (n : ℕ) : Type 0 where
+  pub many : n ≡ length rows
+  pub written : startsAtExit ≡ startsIn rows starts

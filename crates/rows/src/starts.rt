@@ -5,13 +5,11 @@ use crate::spans::slot_at;
 use answers::Options;
 use slots::SEARCH_LIMIT;
 use slotted::decide;
-ghost use mathlib.Core.Path.{_≡_};
-ghost use lib.ListN.{length};
 ghost use Rattle.answers.specs.Settings.{directory};
 ghost use Rattle.slots.specs.Slots.{searchLimit};
 ghost use Rattle.slotted.specs.Directory.{Sound};
 ghost use Rattle.rows.specs.Rows.{rowsAt};
-ghost use Rattle.rows.specs.RowAnswers.{startsIn, StartsWritten};
+ghost use Rattle.rows.specs.RowAnswers.{StartsWritten, StartsListed};
 
 // Where the rows of a plain page start, ascending: each runs to the next one's start, the last to 0xFF0. They are written to `starts`, as many as
 // have room; how many there are is answered beside the parse's answer. A refusal writes nothing.
@@ -29,7 +27,7 @@ pub fn row_starts(number: u64, plain: &[u8], options: Options, starts: &mut [u16
 // From the directory's far end the kept offsets ascend.
 fn starts_at(plain: &[u8], start: usize, count: usize, starts: &mut [u16]) -> usize
     requires { ⌜ Sound (now plain) start count ⌝ }
-    ensures { λ n. ⌜ (n ≡ length (rowsAt (now (plain .entry)) start count)) × (now (starts .exit) ≡ startsIn (rowsAt (now (plain .entry)) start count) (now (starts .entry))) ⌝ }
+    ensures { λ n. ⌜ StartsListed (rowsAt (now (plain .entry)) start count) (now (starts .entry)) (now (starts .exit)) n ⌝ }
 {
     let stop = start + 2 * count;
     let mut rows: usize = 0;

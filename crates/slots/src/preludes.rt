@@ -45,7 +45,7 @@ pub fn prelude_candidates(bytes: &[u8], bv: u8, limit: usize, n: u8) -> Prelude
     seen
 }
 
-// The first field from `from` on that holds n, or `end`.
+// The next field from `from` on that holds n, or `end`.
 fn next_field(bytes: &[u8], bv: u8, n: u8, from: usize, end: usize) -> usize
     requires { ⌜ (from ≤ end) × (end ≤ length (now bytes) - 1) ⌝ }
     ensures { λ r. ⌜ NextField (plainOf bv (now (bytes .entry))) n from end r ⌝ }
@@ -61,7 +61,7 @@ fn next_field(bytes: &[u8], bv: u8, n: u8, from: usize, end: usize) -> usize
     at
 }
 
-// Past blocks of 64 fields of which none holds n: most pages have no other.
+// Past blocks of 64 fields of which none holds n, as most are.
 fn pass_blocks(bytes: &[u8], bv: u8, n: u8, from: usize, end: usize) -> usize
     requires { ⌜ (from ≤ end) × (end ≤ length (now bytes) - 1) ⌝ }
     ensures { λ r. ⌜ Passed (plainOf bv (now (bytes .entry))) n from end r ⌝ }

@@ -11,6 +11,7 @@ use Rattle.answers.specs.Warns.{warningNumber, blankWarning, noParseWarnings, w
 use Rattle.answers.specs.declared.kinds.Answer.{Answer}
 use Rattle.answers.specs.declared.notices.WarningKind.{WarningKind}
 use Rattle.answers.specs.declared.notices.WarningKind.the-variants.{Nothing}
+use Rattle.answers.specs.declared.notices.Warning.{Warning}
 use Rattle.answers.specs.declared.notices.ParseWarnings.{ParseWarnings}
 use Rattle.slotted.specs.Directory.{Sound}
 use Rattle.slotted.specs.Decisions.{answerOf, decisionOf}
@@ -22,54 +23,58 @@ use Rattle.slotted.specs.declared.locations.Located.{Located}
 use Rattle.slotted.proofs.Decisions.{decided-sound}
 
 -- one warning, given or not
-module _ (number : ℕ) (kind : WarningKind) (b : Bool) (e : b ≡ isGiven kind) where
-  pub noted-given : b ≡ true → ofPage number kind ≡ notedOf number kind
+module _ (kind : WarningKind) (b : Bool) (e : b ≡ isGiven kind) where
+  pub noted-given : (number : ℕ) → b ≡ true → ofPage number kind ≡ notedOf number kind
   unfolding notedOf
-  noted-given q = rw (sym e ∙ q) refl
+  noted-given number q = rw (sym e ∙ q) refl
 
-  pub noted-not : b ≡ false → blankWarning ≡ notedOf number kind
+  pub noted-not : (number : ℕ) → b ≡ false → blankWarning ≡ notedOf number kind
   unfolding notedOf
-  noted-not q = rw (sym e ∙ q) refl
+  noted-not number q = rw (sym e ∙ q) refl
 
-  pub one-given : b ≡ true → 1 ≡ flag (isGiven kind)
-  one-given q = rw (sym e ∙ q) refl
+  pub count-given : b ≡ true → 1 ≡ flag (isGiven kind)
+  count-given q = rw (sym e ∙ q) refl
 
-  pub one-not : b ≡ false → 0 ≡ flag (isGiven kind)
-  one-not q = rw (sym e ∙ q) refl
+  pub count-not : b ≡ false → 0 ≡ flag (isGiven kind)
+  count-not q = rw (sym e ∙ q) refl
+
+-- none, one or two before the last, which is given or not
+abbrev made : ℕ → Warning → Warning → Warning → Given
+made n a b c = record { len = n; first = a; second = b; third = c }
+
+module _ (number : ℕ) (c : WarningKind) where
+  after-none : (z : Bool) → made (flag z + 0 + 0) (pick z (ofPage number c) blankWarning) blankWarning blankWarning
+      ≡ firstThree (map (ofPage number) (pick z (c ∷ []) []))
+  after-none true = refl
+  after-none false = refl
+
+  after-one : (k : WarningKind) (z : Bool) → made (1 + flag z + 0) (ofPage number k) (pick z (ofPage number c) blankWarning) blankWarning
+      ≡ firstThree (map (ofPage number) (k ∷ pick z (c ∷ []) []))
+  after-one k true = refl
+  after-one k false = refl
+
+  after-two : (j k : WarningKind) (z : Bool) → made (1 + 1 + flag z) (ofPage number j) (ofPage number k) (pick z (ofPage number c) blankWarning)
+      ≡ firstThree (map (ofPage number) (j ∷ k ∷ pick z (c ∷ []) []))
+  after-two j k true = refl
+  after-two j k false = refl
 
 -- three, by which of the first two are given
 module _ (number : ℕ) (a b c : WarningKind) where
   pub only-last : isGiven a ≡ false → isGiven b ≡ false → inOrder number c Nothing Nothing ≡ givenOf number (a ∷ b ∷ c ∷ [])
   unfolding givenOf notedOf keep
-  only-last qa qb = rw (qa, qb) (go (isGiven c))
-    where
-      go : (z : Bool) → _≡_ {A = Given} (record { len = flag z + 0 + 0; first = pick z (ofPage number c) blankWarning; second = blankWarning; third = blankWarning }) (firstThree (map (ofPage number) (pick z (c ∷ []) [])))
-      go true = refl
-      go false = refl
+  only-last qa qb = rw (qa, qb) (after-none number c (isGiven c))
 
   pub last-two : isGiven a ≡ false → isGiven b ≡ true → inOrder number b c Nothing ≡ givenOf number (a ∷ b ∷ c ∷ [])
   unfolding givenOf notedOf keep
-  last-two qa qb = rw (qa, qb) (go (isGiven c))
-    where
-      go : (z : Bool) → _≡_ {A = Given} (record { len = 1 + flag z + 0; first = ofPage number b; second = pick z (ofPage number c) blankWarning; third = blankWarning }) (firstThree (map (ofPage number) (b ∷ pick z (c ∷ []) [])))
-      go true = refl
-      go false = refl
+  last-two qa qb = rw (qa, qb) (after-one number c b (isGiven c))
 
   pub outer-two : isGiven a ≡ true → isGiven b ≡ false → inOrder number a c Nothing ≡ givenOf number (a ∷ b ∷ c ∷ [])
   unfolding givenOf notedOf keep
-  outer-two qa qb = rw (qa, qb) (go (isGiven c))
-    where
-      go : (z : Bool) → _≡_ {A = Given} (record { len = 1 + flag z + 0; first = ofPage number a; second = pick z (ofPage number c) blankWarning; third = blankWarning }) (firstThree (map (ofPage number) (a ∷ pick z (c ∷ []) [])))
-      go true = refl
-      go false = refl
+  outer-two qa qb = rw (qa, qb) (after-one number c a (isGiven c))
 
   pub first-two : isGiven a ≡ true → isGiven b ≡ true → inOrder number a b c ≡ givenOf number (a ∷ b ∷ c ∷ [])
   unfolding givenOf notedOf keep
-  first-two qa qb = rw (qa, qb) (go (isGiven c))
-    where
-      go : (z : Bool) → _≡_ {A = Given} (record { len = 1 + 1 + flag z; first = ofPage number a; second = ofPage number b; third = pick z (ofPage number c) blankWarning }) (firstThree (map (ofPage number) (a ∷ b ∷ pick z (c ∷ []) [])))
-      go true = refl
-      go false = refl
+  first-two qa qb = rw (qa, qb) (after-two number c a b (isGiven c))
 
   -- in their table they are what the parse warns of: x, y and z say which of them are none
   abbrev put : Bool → ParseWarnings → WarningKind → ParseWarnings

@@ -27,7 +27,7 @@ pub table-none : (plain : List ℕ) (start : ℕ) (t : List ℕ) → t ≡ table
 unfolding each
 table-none plain start t e = e
 
-pub table-put : (l t : List ℕ) (k v : ℕ) → length l ≡ k → k < 384 → t ≡ tableOf l → set t k v ≡ tableOf (l ++ (v ∷ []))
+table-put : (l t : List ℕ) (k v : ℕ) → length l ≡ k → k < 384 → t ≡ tableOf l → set t k v ≡ tableOf (l ++ (v ∷ []))
 table-put l t k v n h q =
     let m : 384 - length l ≡ suc (384 - (k + 1)) = omega arith in
     let n′ : 384 - (k + 1) ≡ 384 - length (l ++ (v ∷ [])) = omega (arith, length-append l (v ∷ [])) in

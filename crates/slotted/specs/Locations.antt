@@ -1,6 +1,5 @@
 -- What the parse says in a small value: its answer, where the directory is, and the warnings that are given. Assumes nothing.
-use Prim.Native.Nat.{ℕ, _+_, _*_, _≤_}
-use mathlib.Core.Path.{_≡_}
+use Prim.Native.Nat.{ℕ, _+_}
 use mathlib.Core.Bool.{Bool, not}
 use mathlib.Core.List.{List, [], _∷_, map}
 use lib.Dec.{eqb}
@@ -38,7 +37,7 @@ locatedBy number d =
 unfoldable pub locatedOf : ℕ → ℕ → List ℕ → Bool → Located
 locatedOf lim number plain lenient = locatedBy number (decisionOf lim plain lenient)
 
--- ---- as the code makes it
+-- ---- private: as the code makes it
 
 -- a warning of the page where it is given, else a blank one
 unfoldable pub notedOf : ℕ → WarningKind → Warning

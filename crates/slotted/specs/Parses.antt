@@ -40,7 +40,7 @@ warned t number kind = pick (eqb (warningNumber kind) 0) t (withParseWarning t n
 abbrev pub warningsOf : ℕ → Decided → ParseWarnings
 warningsOf number d = warned (warned (warned noParseWarnings number (d .first)) number (d .second)) number (d .third)
 
--- the same table, of warnings that are given
+-- the same table, of warnings that are given; only private code needs it
 abbrev pub warningTable : Given → ParseWarnings
 warningTable g =
     record { items = set (set (set (noParseWarnings .items) 0 (g .first)) 1 (g .second)) 2 (g .third); len = g .len }

@@ -68,7 +68,7 @@ fn given_first(number: u64, a: WarningKind, b: WarningKind, c: WarningKind) -> G
 fn in_order(number: u64, a: WarningKind, b: WarningKind, c: WarningKind) -> Given
     ensures { λ r. ⌜ r ≡ inOrder number a b c ⌝ }
 {
-    let len = one(a) + one(b) + one(c);
+    let len = given_count(a) + given_count(b) + given_count(c);
     let first = noted(number, a);
     let second = noted(number, b);
     let third = noted(number, c);
@@ -93,7 +93,7 @@ fn noted(number: u64, kind: WarningKind) -> Warning
     }
 }
 
-fn one(kind: WarningKind) -> usize
+fn given_count(kind: WarningKind) -> usize
     ensures { λ r. ⌜ (r ≡ flag (isGiven kind)) × (r < 2) ⌝ }
 {
     if is_given(kind) { 1 } else { 0 }

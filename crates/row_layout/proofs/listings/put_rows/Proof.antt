@@ -14,8 +14,8 @@ returns-3 c =
     let zeros = count .before .before .before .before in
     let starts = zeros .before .before .before .before in
     let a = starts .before .before .before .before .before .before .args in
-    rows-put (rowsAt (a .plain .now) (a .start) (a .count)) (a .out .now) (a .at) (starts .put-starts .result) (starts .put-starts .ensures .0) (starts .put-starts .ensures .1)
-    (starts .put-starts .ensures .2) (zeros .put-zeros .ensures) (count .put-size16 .ensures) (omega arith)
+    rows-put (rowsAt (a .plain .now) (a .start) (a .count)) (a .out .now) (a .at) (starts .put-starts .result) (starts .put-starts .ensures .many) (starts .put-starts .ensures .few)
+    (starts .put-starts .ensures .put) (zeros .put-zeros .ensures) (count .put-size16 .ensures) (omega arith)
 
 pub put-rows-spec : {M : Type 1} → statement M
 put-rows-spec =
@@ -26,10 +26,10 @@ put-rows-spec =
     (λ c. layout-short _ (list-size _) (omega arith))
     (λ c. search needs)
     (λ c κs. search needs)
-    (λ c. omega (arith, c .before .before .before .put-starts .ensures .1))
-    (λ c. omega (arith, c .before .before .before .put-starts .ensures .1))
-    (λ c. omega (arith, c .before .before .before .put-starts .ensures .1))
-    (λ c. omega (arith, c .before .before .before .put-starts .ensures .1))
+    (λ c. omega (arith, c .before .before .before .put-starts .ensures .few))
+    (λ c. omega (arith, c .before .before .before .put-starts .ensures .few))
+    (λ c. omega (arith, c .before .before .before .put-starts .ensures .few))
+    (λ c. omega (arith, c .before .before .before .put-starts .ensures .few))
     (λ c κs. search needs)
     (λ c κs. search needs)
     (λ c. search needs)

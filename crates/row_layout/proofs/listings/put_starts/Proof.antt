@@ -1,6 +1,6 @@
 -- `put_starts` meets its contract: what `Listing` says holds from the far end on, and each row is put behind those before it.
 use borrow.Author.Needs.{needs}
-use Prim.Native.Nat.{ℕ, _+_, _*_, _/_, _%_, _≤_}
+use Prim.Native.Nat.{ℕ, _+_, _*_, _/_, _%_, _<_}
 use mathlib.Core.Path.{_≡_, sym, subst, _∙_}
 use native.Mathlib.Omega.{arith}
 use lib.ListN.{length, set, length-set}
@@ -35,7 +35,7 @@ loop-again c =
     let rows = rowsAt (a .plain .now) (a .start) (a .count) in
     let kept = sym (c .before .is-kept .ensures) ∙ c .if1 .taken in
     let g = l .loop .inv .0 in
-    let some = q .before .before .before .loop-test .taken in
+    let some : 0 < l .loop .k = omega (arith, q .before .before .before .loop-test .taken) in
     let is = q .pair .ensures in
     let at = list-at (a .plain .now) (a .start) (a .count) _ (l .loop .k) (l .loop .rows) g (q .pair .result) some is kept in
     let place = a .at + 2 * l .loop .rows in (
@@ -50,7 +50,7 @@ loop-again-2 : tie.Need-loop-again-2 Inv-loop μ-loop
 loop-again-2 c =
     let q = c .before .before in
     let l = q .before .before .before .before in (
-      list-skip _ _ _ _ _ _ (l .loop .inv .0) _ (q .before .before .before .loop-test .taken) (q .pair .ensures) (sym (c .before .is-kept .ensures) ∙ c .if1 .left),
+      list-skip _ _ _ _ _ _ (l .loop .inv .0) _ (omega (arith, q .before .before .before .loop-test .taken)) (q .pair .ensures) (sym (c .before .is-kept .ensures) ∙ c .if1 .left),
       l .loop .inv .1,
       l .loop .inv .2,
     )
@@ -58,7 +58,11 @@ loop-again-2 c =
 returns : tie.Need-returns Inv-loop μ-loop
 returns c =
     let l = c .before in
-    (list-all _ _ _ _ _ _ (l .loop .inv .0) (c .loop-test .left), omega (arith, l .loop .inv .0 .within), l .loop .inv .2)
+    record {
+      many = list-all _ _ _ _ _ _ (l .loop .inv .0) (c .loop-test .left);
+      few = omega (arith, l .loop .inv .0 .within);
+      put = l .loop .inv .2;
+    }
 
 pub put-starts-spec : {M : Type 1} → statement M
 put-starts-spec =

@@ -5,7 +5,7 @@ use mathlib.Core.Logic.{⊎-elim}
 use lib.ListN.{length, take}
 use Rattle.lists.specs.Pieces.{over}
 use Rattle.rows.specs.Rows.{rowsAt}
-use Rattle.rows.proofs.RowStarts.{Listing, list-none, list-skip, list-below, list-at, list-more, list-all, starts-none, starts-long, starts-put, starts-full, starts-all}
+use Rattle.rows.proofs.RowStarts.{Listing, list-none, list-skip, list-below, list-at, list-more, list-all, starts-none, starts-long, starts-put, starts-full, starts-done}
 use Rattle.rows.proofs.starts.starts_at.Statement.{statement}
 use Rattle.rows.proofs.starts.starts_at.Tie as tie
 
@@ -57,7 +57,7 @@ returns : tie.Need-returns Inv-loop μ-loop
 returns c =
     let l = c .before in
     let e = list-all _ _ _ _ _ _ (l .loop .inv .0) (c .loop-test .left) in
-    (e, starts-all _ _ _ _ (l .loop .inv .1) e)
+    record { many = e; written = starts-done _ _ _ _ (l .loop .inv .1) e }
 
 pub starts-at-spec : {M : Type 1} → statement M
 starts-at-spec =

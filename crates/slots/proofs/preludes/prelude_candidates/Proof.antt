@@ -41,9 +41,7 @@ loop-again c =
     (search needs, gap-more _ _ _ _ refl (f .fields .inv .2 (l .before .fields-test .taken)) _ _ _ (l .loop .inv .1) (g .note-gap .ensures))
 
 fields-less : tie.Need-fields-less Inv-loop μ-loop Inv-fields μ-fields
-fields-less c =
-    let f = c .before .before .before .before in
-    omega (arith, c .next-field2 .ensures .passed .on, c .next-field2 .ensures .passed .within, c .before .before .before .fields-test .taken)
+fields-less c = omega (arith, c .next-field2 .ensures .passed .on, c .next-field2 .ensures .passed .within, c .before .before .before .fields-test .taken)
 
 fields-again : tie.Need-fields-again Inv-loop μ-loop Inv-fields μ-fields
 fields-again c =

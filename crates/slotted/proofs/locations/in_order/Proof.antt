@@ -13,7 +13,7 @@ returns c =
     let first-one = second-one .before in
     λ i.
     record {
-      len = first-one .one .ensures .0 i + second-one .one2 .ensures .0 i + third-one .one3 .ensures .0 i;
+      len = first-one .given-count .ensures .0 i + second-one .given-count2 .ensures .0 i + third-one .given-count3 .ensures .0 i;
       first = first .noted .ensures i;
       second = second .noted2 .ensures i;
       third = c .noted3 .ensures i;

@@ -5,10 +5,10 @@ use Rattle.slotted.proofs.locations.noted.Statement.{statement}
 use Rattle.slotted.proofs.locations.noted.Tie as tie
 
 returns : tie.Need-returns
-returns c = noted-given _ _ _ (c .before .is-given .ensures) (c .if1 .taken)
+returns c = noted-given _ _ (c .before .is-given .ensures) _ (c .if1 .taken)
 
 returns-2 : tie.Need-returns-2
-returns-2 c = noted-not _ _ _ (c .before .is-given .ensures) (c .if1 .left)
+returns-2 c = noted-not _ _ (c .before .is-given .ensures) _ (c .if1 .left)
 
 pub noted-spec : {M : Type 1} → statement M
 noted-spec = tie.close (tie.spec (λ c κs. search needs) returns returns-2)
