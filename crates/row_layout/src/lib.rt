@@ -1,5 +1,5 @@
 // The layouts of include/lumeviqo.h for a plain page's slots and rows, written as those of `layout` are. Slots and rows go from the page straight
-// into the lent buffer: whoever calls is short of stack.
+// into the lent buffer: whoever calls may be short of stack.
 mod directories;
 mod listings;
 

@@ -1,8 +1,8 @@
 // The parse of a plain page's slot directory: document 01, "Slots and rows", with the answers 1 and 8 to 12. It carries over slotted.rs's
 // SlottedPage::parse and unconfirmed.
 //
-// It departs from the original in shape: the slots and the warnings stand in fixed tables, and what the parse decides is settled in small values
-// before a table is made, so that who asks for rows makes none.
+// It departs from the original in shape: what the parse decides is settled in small values, `locate` says all of it but the slots with no table, and
+// `parse` alone puts slots and warnings into fixed tables.
 mod directories;
 mod locations;
 mod verdicts;
