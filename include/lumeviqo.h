@@ -291,8 +291,8 @@ size_t lumeviqo_decode_supplied_summary(uint64_t number, const uint8_t *stored, 
                                         uint8_t *answer, size_t answer_length);
 
 /* Slots and rows. Each of the four functions looks for the slot directory anew, and reads it where it stands in `plain`: nothing is copied
-   or sorted in between, and none of them needs more than 1,500 bytes of stack. To see all rows, ask lumeviqo_rows once, not lumeviqo_row
-   for each. */
+   or sorted in between. On the pages of compare/stack/run none of them took more than 1,100 bytes of stack; that is measured, not proved.
+   To see all rows, ask lumeviqo_rows once, not lumeviqo_row for each. */
 
 /* The slot directory of a plain page. Refuses: 1, 8 to 12. Layout Parse. */
 size_t lumeviqo_parse(uint64_t number, const uint8_t *plain, size_t plain_length, uint8_t leniency, uint8_t *answer,
