@@ -38,15 +38,16 @@ use Rattle.numbers.specs.Writes.{Wrote}
 use Rattle.numbers.proofs.Kept.{kept-short, kept-room, kept-behind}
 use Rattle.fields.specs.Fields.{Field, little, fieldBytes, sizeOf, layoutBytes}
 use Rattle.fields.proofs.Sizes.{fields-long, size-append, layout-append}
-use Rattle.parts.specs.Parts.{answerSize, answerFields, fitsFields, warningsFields}
+use Rattle.parts.specs.Parts.{answerSize, answerFields, fitsFields, warningsFields, slotsFields}
 use Rattle.parts.specs.Lent.{isLent, fitsIn}
 use Rattle.parts.proofs.Sizes.{answer-size}
 use Rattle.layout.specs.Layouts.{recordFields, trailerFields, trailerSize, headerFields, superblockFields, superblockSize}
 use Rattle.layout.specs.Layouts.{summaryFields, scanSize, choiceFields, decodingFields, decodingSize}
 use Rattle.layout.proofs.Sizes.{trailer-size, superblock-size, summary-size, decoding-size}
-use Rattle.row_layout.specs.RowLayouts.{directoryFields, slotsFields, parseFields, parseSize, rowCountFields, rowCountSize, rowFields, rowSize}
-use Rattle.row_layout.specs.RowLayouts.{listFields, rowsFields, rowsSize}
-use Rattle.row_layout.proofs.Sizes.{parse-size, row-count-size, row-size, rows-size}
+use Rattle.parse_layout.specs.ParseLayouts.{directoryFields, parseFields, parseSize}
+use Rattle.parse_layout.proofs.Sizes.{parse-size}
+use Rattle.row_layout.specs.RowLayouts.{rowCountFields, rowCountSize, rowFields, rowSize, listFields, rowsFields, rowsSize}
+use Rattle.row_layout.proofs.Sizes.{row-count-size, row-size, rows-size}
 use Rattle.lumeviqo.specs.Calls.{hasRoom, toldIf, ScanCall, ReplaceCall, DecodingCall}
 use Rattle.demands.specs.CallsFromC.{ToldInC, Keeps, CallsAnswered}
 use Rattle.demands.proofs.Demand1.{refusals-silent}

@@ -30,10 +30,10 @@ use Rattle.page.specs.declared.superblocks.SuperblockAnswer.{SuperblockAnswer}
 use Rattle.sector.specs.Scan.{blankFits}
 use Rattle.summary.specs.Page.{sectorEnd, checked, pageScanOf, scanned}
 use Rattle.summary.specs.Replace.{replaced, storedAfter, shiftedAfter}
-use Rattle.slotted.specs.Decisions.{answerOf, verdictRefused, decisionOf}
+use Rattle.directory.specs.Decisions.{answerOf, verdictRefused, decisionOf}
 use Rattle.slotted.specs.Locations.{givenOf, locatedOf}
 use Rattle.slotted.specs.Parses.{parsedOf}
-use Rattle.slotted.specs.declared.verdicts.Decided.{Decided}
+use Rattle.directory.specs.declared.verdicts.Decided.{Decided}
 use Rattle.rows.specs.Rows.{ascending, rowsAt, rowIn, IsPart}
 use Rattle.rows.specs.RowAnswers.{rowsIn, rowsOf, rowOf, spanAnswer, rowAnswerOf, rowsCountedOf, startsIn}
 use Rattle.rows.specs.declared.spans.Span.{Span}

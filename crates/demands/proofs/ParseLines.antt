@@ -16,18 +16,19 @@ use Rattle.answers.specs.declared.kinds.Reason.the-variants.{CountBelowFour, Fe
 use Rattle.answers.specs.declared.notices.WarningKind.{WarningKind}
 use Rattle.answers.specs.declared.notices.WarningKind.the-variants as warning
 use Rattle.page.specs.Trailer.{rowCount}
-use Rattle.slots.specs.Slots.{scannedDirectory, preludeOf}
+use Rattle.slots.specs.Slots.{scannedDirectory}
 use Rattle.slots.specs.declared.scans.Found.{Found}
 use Rattle.slots.specs.declared.scans.Found.the-variants as scan
-use Rattle.slots.specs.declared.preludes.Prelude.{Prelude}
-use Rattle.slots.specs.declared.preludes.Prelude.the-variants as prelude
-use Rattle.slotted.specs.Directory.{insideOf}
-use Rattle.slotted.specs.Decisions.{answerOf, verdictRefused, verdictTaken, fewOf, reasonOf, unconfirmedOf, manyOf, foundOf, insideCheckedBy, insideChecked, decisionOf}
+use Rattle.preludes.specs.Preludes.{preludeOf}
+use Rattle.preludes.specs.declared.search.Prelude.{Prelude}
+use Rattle.preludes.specs.declared.search.Prelude.the-variants as prelude
+use Rattle.directory.specs.Directory.{insideOf}
+use Rattle.directory.specs.Decisions.{answerOf, verdictRefused, verdictTaken, fewOf, reasonOf, unconfirmedOf, manyOf, foundOf, insideCheckedBy, insideChecked, decisionOf}
 use Rattle.slotted.specs.Parses.{warned, parsedBy}
-use Rattle.slotted.specs.declared.verdicts.Verdict.{Verdict}
-use Rattle.slotted.specs.declared.verdicts.Verdict.the-variants as verdict
-use Rattle.slotted.specs.declared.verdicts.Listed.{Listed}
-use Rattle.slotted.specs.declared.verdicts.Decided.{Decided}
+use Rattle.directory.specs.declared.verdicts.Verdict.{Verdict}
+use Rattle.directory.specs.declared.verdicts.Verdict.the-variants as verdict
+use Rattle.directory.specs.declared.verdicts.Listed.{Listed}
+use Rattle.directory.specs.declared.verdicts.Decided.{Decided}
 use Rattle.rows.specs.Rows.{headOr}
 use Rattle.demands.specs.Told.{Line, valuesAt, liveIn, isFew, reasonAt, foundIn, stopIn, preludeAt, offsetAt, endAt}
 use Rattle.demands.specs.Demand1.{NoDirectory}

@@ -23,7 +23,8 @@ use Rattle.fields.specs.Fields.{layoutBytes}
 use Rattle.parts.specs.Parts.{answerSize, answerFields}
 use Rattle.parts.specs.Lent.{isLent}
 use Rattle.layout.specs.Layouts.{integrityBytes, trailerSize, trailerBytes, superblockSize, superblockBytes, scanSize, decodingSize}
-use Rattle.row_layout.specs.RowLayouts.{parseSize, rowCountSize, rowSize, rowsSize}
+use Rattle.parse_layout.specs.ParseLayouts.{parseSize}
+use Rattle.row_layout.specs.RowLayouts.{rowCountSize, rowSize, rowsSize}
 use Rattle.lumeviqo.specs.Calls.{hasRoom, ScanCall, ReplaceCall, DecodingCall, parseTold, rowCountTold, rowTold, rowsTold}
 
 -- a layout of n bytes that starts with the answer x, in the buffer `answer`, and what is returned; `lent` says whether the fits are fits

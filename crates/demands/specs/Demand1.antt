@@ -21,10 +21,10 @@ use Rattle.page.specs.Superblock.{blankSuperblock, superblockAnswer, checkedSup
 use Rattle.sector.specs.Scan.{blankFits}
 use Rattle.summary.specs.Page.{pageScanOf, scanned}
 use Rattle.summary.specs.Replace.{replaced, storedAfter, shiftedAfter}
-use Rattle.slotted.specs.Decisions.{nothingListed}
+use Rattle.directory.specs.Decisions.{nothingListed}
 use Rattle.slotted.specs.Locations.{locatedOf}
 use Rattle.slotted.specs.Parses as slotted
-use Rattle.slotted.specs.declared.verdicts.Declared.the-variants.{Scanned}
+use Rattle.directory.specs.declared.verdicts.Declared.the-variants.{Scanned}
 use Rattle.slotted.specs.declared.locations.Located.{Located}
 use Rattle.slotted.specs.declared.directories.Parsed.{Parsed}
 use Rattle.rows.specs.Rows.{IsPart}

@@ -12,14 +12,15 @@ use Rattle.sector.specs.declared.fits.Fit.{Fit}
 use Rattle.page.specs.Trailer.{rowCount, storedCrc}
 use Rattle.page.specs.Integrity.{computedCrc}
 use Rattle.page.specs.Superblock.{magicOf}
-use Rattle.slots.specs.Slots.{scannedDirectory, preludeOf}
+use Rattle.slots.specs.Slots.{scannedDirectory}
 use Rattle.slots.specs.declared.scans.Found.{Found}
 use Rattle.slots.specs.declared.scans.Found.the-variants as scan
-use Rattle.slots.specs.declared.preludes.Prelude.{Prelude}
-use Rattle.slots.specs.declared.preludes.Prelude.the-variants as prelude
-use Rattle.slotted.specs.Directory.{insideOf}
-use Rattle.slotted.specs.Decisions.{foundOf}
-use Rattle.slotted.specs.declared.verdicts.Listed.{Listed}
+use Rattle.preludes.specs.Preludes.{preludeOf}
+use Rattle.preludes.specs.declared.search.Prelude.{Prelude}
+use Rattle.preludes.specs.declared.search.Prelude.the-variants as prelude
+use Rattle.directory.specs.Directory.{insideOf}
+use Rattle.directory.specs.Decisions.{foundOf}
+use Rattle.directory.specs.declared.verdicts.Listed.{Listed}
 use Rattle.rows.specs.Rows.{headOr}
 use Rattle.votes.specs.Votes.{countsOf, topOf}
 use Rattle.verdict.specs.Sectors.{entry, refitOf, firstWeak}

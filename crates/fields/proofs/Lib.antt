@@ -2,3 +2,4 @@
 pub mod Sizes
 pub mod Puts
 pub mod Tables
+pub mod Pairs

@@ -2,6 +2,7 @@
 use Prim.Native.Nat.{ℕ, _+_}
 use mathlib.Core.Path.{_≡_}
 use mathlib.Core.List.{List, [], _∷_, _++_}
+use Rattle.lists.specs.Bytes.{byteAt}
 use Rattle.numbers.specs.Numbers.{littleBytes, bigBytes}
 use Rattle.numbers.specs.Writes.{written, past}
 
@@ -40,3 +41,7 @@ placeAfter l at (f ∷ fs) = placeAfter (written l at (fieldBytes f)) (past l at
 pub record Put (l : List ℕ) (at : ℕ) (fs : List Field) (after : List ℕ) (next : ℕ) : Type 0 where
   pub bytes : after ≡ puts l at fs
   pub place : next ≡ placeAfter l at fs
+
+-- an entry of a table of numbers of two bytes: 0 in a place that is not used
+abbrev pub pairEntry : List ℕ → ℕ → List Field
+pairEntry numbers k = little 2 (byteAt numbers k) ∷ []

@@ -12,11 +12,11 @@ use answers::Answer;
 use layout::SCAN_SIZE;
 use libc::STDIN_FILENO;
 use libc::STDOUT_FILENO;
+use parse_layout::PARSE_SIZE;
 use parts::ANSWER_SIZE;
-use row_layout::PARSE_SIZE;
 ghost use lib.ListN.{length};
 ghost use mathlib.Core.Path.{_≡_};
-ghost use Rattle.row_layout.specs.RowLayouts.{parseSize};
+ghost use Rattle.parse_layout.specs.ParseLayouts.{parseSize};
 
 struct Question {
     number: u64,

@@ -6,10 +6,10 @@ use answers::Options;
 use answers::ParseWarnings;
 use answers::Values;
 use answers::WarningKind;
+use directory::Declared;
 use libc::STDIN_FILENO;
 use libc::STDOUT_FILENO;
 use rows::Span;
-use slotted::Declared;
 
 fn text(s: &[u8]) {
     io::write_all(STDOUT_FILENO, s);
@@ -21,25 +21,38 @@ fn number(n: u64) {
 }
 
 // A pair at an offset, the least byte first.
-fn put(page: &mut [u8], at: usize, low: u8, high: u8) {
-    if page.len() <= at {
+fn put(page: &mut [u8], at: u16, value: u16) {
+    let i = at as usize;
+    if page.len() <= i {
         return;
     }
-    if page.len() - at < 2 {
+    if page.len() - i < 2 {
         return;
     }
-    page[at] = low;
-    page[at + 1] = high;
+    page[i] = (value % 256) as u8;
+    page[i + 1] = (value / 256) as u8;
 }
 
-// So many slots from an offset on: high * 256, (high - 1) * 256 and so on.
-fn fall(page: &mut [u8], at: u16, high: u8, count: u8) {
-    let mut k: u8 = 0;
-    while k < count {
-        let i = at as usize + 2 * (k as usize);
-        put(page, i, 0x00, std::num::wrapping_sub_u8(high, k));
-        k += 1;
+// Pairs in hexadecimal: "40:5 44:F00,E00" has 5 at 0x40, 0xF00 at 0x44 and 0xE00 behind it.
+fn lay(page: &mut [u8], pairs: &[u8]) {
+    let mut at: u16 = 0;
+    let mut value: u16 = 0;
+    let mut i: usize = 0;
+    while i < pairs.len() {
+        let c = pairs[i];
+        if c == b':' {
+            at = value % 4096;
+            value = 0;
+        } else if c == b' ' || c == b',' {
+            put(page, at, value);
+            at = at % 4096 + 2;
+            value = 0;
+        } else {
+            value = value % 4096 * 16 + digits::digit_value(c) as u16;
+        }
+        i += 1;
     }
+    put(page, at, value);
 }
 
 fn answer(a: Answer) {
@@ -189,12 +202,16 @@ fn show_record(plain: &[u8], r: usize) {
     yes(record.exact);
 }
 
+// A page of zeros but for its pairs.
+fn known(name: &[u8], pairs: &[u8]) {
+    let mut page = io::buffer();
+    lay(&mut page, pairs);
+    both(name, &page);
+}
+
 fn four_rows() {
     let mut page = io::buffer();
-    put(&mut page, 0xFF0, 5, 0);
-    put(&mut page, 0x40, 0x05, 0x00);
-    fall(&mut page, 0x44, 0x0F, 3);
-    put(&mut page, 0x4C, 0x00, 0x0C);
+    lay(&mut page, b"FF0:5 40:5 44:F00,E00,D00,C00");
     both(b"four rows", &page);
     text(b"row count at T 5 and 6");
     matches(&page, 5);
@@ -207,149 +224,53 @@ fn four_rows() {
     text(b"\n");
 }
 
-fn count_below_four() {
-    let mut page = io::buffer();
-    put(&mut page, 0xFF0, 2, 0);
-    put(&mut page, 0x40, 0x02, 0x00);
-    fall(&mut page, 0x44, 0x0F, 2);
-    both(b"count below four", &page);
+fn few_rows_or_none() {
+    known(b"count below four", b"FF0:2 40:2 44:F00,E00");
+    known(b"four live", b"50:F00,E00,D00,C00");
+    known(b"eight live", b"50:F00,E00,D00,C00,B00,A00,900,800");
+    known(b"no prelude", b"FF0:5");
 }
 
-fn four_live() {
-    let mut page = io::buffer();
-    fall(&mut page, 0x50, 0x0F, 4);
-    both(b"four live", &page);
+fn broken_off() {
+    known(b"truncated", b"FF0:6 40:6 44:F00,E00,D00,C00,B00,FFFF");
+    known(
+        b"truncated, a zero counted",
+        b"FF0:8 40:8 44:F00,E00,0,D00,C00,F00",
+    );
+    known(
+        b"two truncated alike",
+        b"FF0:6 40:6 44:F00,E00,D00,C00,FFFF 100:6 104:F00,E00,D00,C00,FFFF",
+    );
+    known(b"first slot 0xFF0", b"FF0:4 40:4 44:FF0,F00,E00,D00");
 }
 
-fn eight_live() {
-    let mut page = io::buffer();
-    fall(&mut page, 0x50, 0x0F, 8);
-    both(b"eight live", &page);
+// The first has 40 slots from 0x303 on, all but four of them zero.
+fn two_or_past_the_limit() {
+    known(b"field 0x2FF", b"FF0:28 2FF:28 303:F00,E00,D00,C00");
+    known(
+        b"two preludes",
+        b"FF0:4 40:4 44:F00,E00,D00,C00 100:4 106:E00,D00,C00,B00,A00",
+    );
+    known(
+        b"two preludes of two",
+        b"FF0:2 40:2 44:F00,E00 100:2 104:E00,D00",
+    );
 }
 
-fn no_prelude() {
-    let mut page = io::buffer();
-    put(&mut page, 0xFF0, 5, 0);
-    both(b"no prelude", &page);
-}
-
-fn truncated() {
-    let mut page = io::buffer();
-    put(&mut page, 0xFF0, 6, 0);
-    put(&mut page, 0x40, 0x06, 0x00);
-    fall(&mut page, 0x44, 0x0F, 5);
-    put(&mut page, 0x4E, 0xFF, 0xFF);
-    both(b"truncated", &page);
-}
-
-fn truncated_with_a_zero() {
-    let mut page = io::buffer();
-    put(&mut page, 0xFF0, 8, 0);
-    put(&mut page, 0x40, 0x08, 0x00);
-    fall(&mut page, 0x44, 0x0F, 2);
-    fall(&mut page, 0x4A, 0x0D, 2);
-    put(&mut page, 0x4E, 0x00, 0x0F);
-    both(b"truncated, a zero counted", &page);
-}
-
-fn two_truncated() {
-    let mut page = io::buffer();
-    put(&mut page, 0xFF0, 6, 0);
-    put(&mut page, 0x40, 0x06, 0x00);
-    fall(&mut page, 0x44, 0x0F, 4);
-    put(&mut page, 0x4C, 0xFF, 0xFF);
-    put(&mut page, 0x100, 0x06, 0x00);
-    fall(&mut page, 0x104, 0x0F, 4);
-    put(&mut page, 0x10C, 0xFF, 0xFF);
-    both(b"two truncated alike", &page);
-}
-
-fn first_slot_no_offset() {
-    let mut page = io::buffer();
-    put(&mut page, 0xFF0, 4, 0);
-    put(&mut page, 0x40, 0x04, 0x00);
-    put(&mut page, 0x44, 0xF0, 0x0F);
-    fall(&mut page, 0x46, 0x0F, 3);
-    both(b"first slot 0xFF0", &page);
-}
-
-// 40 slots from 0x303 on, all but four of them zero.
-fn slots_past_the_limit() {
-    let mut page = io::buffer();
-    put(&mut page, 0xFF0, 40, 0);
-    put(&mut page, 0x2FF, 40, 0x00);
-    fall(&mut page, 0x303, 0x0F, 4);
-    both(b"field 0x2FF", &page);
-}
-
-fn two_preludes() {
-    let mut page = io::buffer();
-    put(&mut page, 0xFF0, 4, 0);
-    put(&mut page, 0x40, 0x04, 0x00);
-    fall(&mut page, 0x44, 0x0F, 4);
-    put(&mut page, 0x100, 0x04, 0x00);
-    fall(&mut page, 0x106, 0x0E, 5);
-    both(b"two preludes", &page);
-}
-
-fn few_two_preludes() {
-    let mut page = io::buffer();
-    put(&mut page, 0xFF0, 2, 0);
-    put(&mut page, 0x40, 0x02, 0x00);
-    fall(&mut page, 0x44, 0x0F, 2);
-    put(&mut page, 0x100, 0x02, 0x00);
-    fall(&mut page, 0x104, 0x0E, 2);
-    both(b"two preludes of two", &page);
-}
-
-fn offsets_inside() {
-    let mut page = io::buffer();
-    put(&mut page, 0xFF0, 5, 0);
-    put(&mut page, 0x40, 0x05, 0x00);
-    fall(&mut page, 0x44, 0x0F, 2);
-    put(&mut page, 0x48, 0x4C, 0x00);
-    put(&mut page, 0x4A, 0x48, 0x00);
-    put(&mut page, 0x4C, 0x44, 0x00);
-    both(b"offsets inside", &page);
-}
-
-fn offsets_at_the_ends() {
-    let mut page = io::buffer();
-    put(&mut page, 0xFF0, 5, 0);
-    put(&mut page, 0x40, 0x05, 0x00);
-    fall(&mut page, 0x44, 0x0F, 3);
-    put(&mut page, 0x4A, 0x4E, 0x00);
-    put(&mut page, 0x4C, 0x43, 0x00);
-    both(b"offsets at the ends", &page);
-}
-
-fn scanned_inside() {
-    let mut page = io::buffer();
-    fall(&mut page, 0x50, 0x0F, 4);
-    put(&mut page, 0x58, 0x5A, 0x00);
-    put(&mut page, 0x5A, 0x52, 0x00);
-    both(b"scanned, offsets inside", &page);
+fn inside() {
+    known(b"offsets inside", b"FF0:5 40:5 44:F00,E00,4C,48,44");
+    known(b"offsets at the ends", b"FF0:5 40:5 44:F00,E00,D00,4E,43");
+    known(b"scanned, offsets inside", b"50:F00,E00,D00,C00,5A,52");
 }
 
 // From 0 the scan's array is at 2; from 1 it is at 1, and as good.
 fn earliest_scan() {
-    let mut page = io::buffer();
-    put(&mut page, 0x02, 0x0F, 0x0E);
-    put(&mut page, 0x04, 0x0D, 0x0C);
-    put(&mut page, 0x06, 0x0B, 0x0A);
-    put(&mut page, 0x08, 0x09, 0x08);
-    both(b"earliest scan", &page);
+    known(b"earliest scan", b"2:E0F,C0D,A0B,809");
 }
 
 fn earliest_scan_counted() {
     let mut page = io::buffer();
-    put(&mut page, 0xFF0, 4, 0);
-    put(&mut page, 0x20, 0x04, 0x00);
-    put(&mut page, 0x22, 0x07, 0x01);
-    put(&mut page, 0x26, 0x0F, 0x0E);
-    put(&mut page, 0x28, 0x0D, 0x0C);
-    put(&mut page, 0x2A, 0x0B, 0x0A);
-    put(&mut page, 0x2C, 0x09, 0x08);
+    lay(&mut page, b"FF0:4 20:4 22:107 26:E0F,C0D,A0B,809");
     both(b"earliest scan, counted", &page);
     text(b"row count at T 4");
     matches(&page, 4);
@@ -357,7 +278,7 @@ fn earliest_scan_counted() {
 }
 
 fn empty() {
-    let mut page = io::buffer();
+    let page = io::buffer();
     both(b"empty", &page);
 }
 
@@ -388,20 +309,10 @@ fn input() -> bool {
 
 fn main() {
     four_rows();
-    count_below_four();
-    four_live();
-    eight_live();
-    no_prelude();
-    truncated();
-    truncated_with_a_zero();
-    two_truncated();
-    first_slot_no_offset();
-    slots_past_the_limit();
-    two_preludes();
-    few_two_preludes();
-    offsets_inside();
-    offsets_at_the_ends();
-    scanned_inside();
+    few_rows_or_none();
+    broken_off();
+    two_or_past_the_limit();
+    inside();
     earliest_scan();
     earliest_scan_counted();
     empty();

@@ -16,7 +16,8 @@ use Rattle.rows.specs.RowAnswers.{rowsOf, rowOf, rowAnswerOf}
 use Rattle.numbers.specs.Writes.{Wrote}
 use Rattle.parts.specs.Lent.{isLent, fitsIn}
 use Rattle.layout.specs.Layouts.{scanSize, scanBytes, replacementBytes, decodingSize, decodingBytes}
-use Rattle.row_layout.specs.RowLayouts.{parseBytes, rowCountBytes, rowBytes, pageRowsBytes}
+use Rattle.parse_layout.specs.ParseLayouts.{parseBytes}
+use Rattle.row_layout.specs.RowLayouts.{rowCountBytes, rowBytes, pageRowsBytes}
 use Rattle.slots.specs.Slots.{searchLimit}
 
 -- a buffer has room for a layout of n bytes

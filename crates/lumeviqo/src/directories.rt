@@ -13,7 +13,7 @@ pub extern "C" fn lumeviqo_parse(
     ensures { λ r. ⌜ Wrote (now (answer .entry)) 0 (parseTold number (now (plain .entry)) leniency) (now (answer .exit)) r ⌝ }
 {
     let options = Options::new(leniency, Options::MIN_TRAILER_COUNT);
-    row_layout::write_parse(answer, number, plain, options)
+    parse_layout::write_parse(answer, number, plain, options)
 }
 
 #[no_mangle]

@@ -7,10 +7,10 @@ use Rattle.answers.specs.declared.kinds.Bvs.{Bvs}
 use Rattle.answers.specs.declared.trust.Ground.{Ground}
 use Rattle.answers.specs.declared.notices.Warning.{Warning}
 use Rattle.sector.specs.declared.fits.Fit.{Fit}
-use Rattle.fields.specs.Fields.{widthOf, sizeOf}
+use Rattle.fields.specs.Fields.{widthOf, sizeOf, pairEntry}
 use Rattle.fields.proofs.Sizes.{table-size}
 use Rattle.lists.specs.Pieces.{joined}
-use Rattle.parts.specs.Parts.{answerFields, answerSize, fitFields, fitEntry, fitSize, fitsFields, fitsSize, groundFields, groundEntry, groundSize, groundsFields, warningFields, warningEntry, warningSize, warningsFields, placesFields, bvsFields, bvsSize}
+use Rattle.parts.specs.Parts.{answerFields, answerSize, fitFields, fitEntry, fitSize, fitsFields, fitsSize, groundFields, groundEntry, groundSize, groundsFields, warningFields, warningEntry, warningSize, warningsFields, placesFields, bvsFields, bvsSize, slotsFields, slotsSize}
 
 pub answer-size : (x : Answer) → sizeOf (answerFields x) ≡ answerSize
 unfolding answerFields sizeOf widthOf
@@ -43,3 +43,7 @@ warnings-size items n = table-size (warningEntry items) warningSize n (λ k. war
 pub bvs-size : (t : Bvs) → sizeOf (bvsFields t) ≡ bvsSize
 unfolding bvsFields placesFields joined sizeOf widthOf
 bvs-size t = refl
+
+pub slots-size : (slots : List ℕ) → sizeOf (slotsFields slots) ≡ slotsSize
+unfolding slotsFields sizeOf widthOf
+slots-size slots = table-size (pairEntry slots) 2 384 (λ k. refl)

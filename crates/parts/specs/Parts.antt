@@ -16,7 +16,7 @@ use Rattle.answers.specs.declared.trust.Ground.{Ground}
 use Rattle.answers.specs.declared.notices.Warning.{Warning}
 use Rattle.sector.specs.Scan.{blankFit}
 use Rattle.sector.specs.declared.fits.Fit.{Fit}
-use Rattle.fields.specs.Fields.{Field, little}
+use Rattle.fields.specs.Fields.{Field, little, pairEntry}
 
 -- the answer part: number, how many values, six zeros, four values
 abbrev pub answerSize : ℕ
@@ -106,3 +106,10 @@ placesFields items = joined (placeEntry items) 8
 
 unfoldable pub bvsFields : Bvs → List Field
 bvsFields t = little 1 (t .len) ∷ placesFields (t .items)
+
+-- a table of slots, or of where rows start
+abbrev pub slotsSize : ℕ
+slotsSize = 384 * 2
+
+unfoldable pub slotsFields : List ℕ → List Field
+slotsFields slots = joined (pairEntry slots) 384

@@ -27,3 +27,5 @@ pub const WARNING_SIZE: usize = 33;
 pub const BVS_SIZE: usize = 9;
 
 pub const FITS_SIZE: usize = 8 * FIT_SIZE;
+
+pub const SLOTS_SIZE: usize = 384 * 2;

@@ -1,4 +1,4 @@
--- Laws of the layouts for slots and rows.
+-- Laws of the layouts for rows.
 pub mod Sizes
-pub mod Slots
+pub mod Starts
 pub mod Wholes

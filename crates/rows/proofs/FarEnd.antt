@@ -13,7 +13,7 @@ use Rattle.lists.specs.Bytes.{pairAt}
 use Rattle.lists.specs.Pieces.{each, keep}
 use Rattle.lists.proofs.Booleans.{and-left}
 use Rattle.lists.proofs.Keep.{keep-append}
-use Rattle.slotted.specs.Directory.{slotsOf, Falls}
+use Rattle.directory.specs.Directory.{slotsOf, Falls}
 use Rattle.lists.specs.Sorting.{insert}
 use Rattle.lists.proofs.Sorting.{insert-length}
 use Rattle.rows.specs.Rows.{isKept, ascending, rowsAt, fromEnd, headOr, rowIn}

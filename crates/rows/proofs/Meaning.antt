@@ -16,10 +16,10 @@ use Rattle.lists.proofs.Each.{each-length}
 use Rattle.lists.proofs.Keep.{keep-le}
 use Rattle.lists.proofs.Sorting.{insert-count}
 use Rattle.slots.specs.Slots.{searchLimit}
-use Rattle.slotted.specs.Directory.{slotsOf}
-use Rattle.slotted.specs.Decisions.{decisionOf}
-use Rattle.slotted.specs.declared.verdicts.Listed.{Listed}
-use Rattle.slotted.proofs.Decisions.{decided-sound}
+use Rattle.directory.specs.Directory.{slotsOf}
+use Rattle.directory.specs.Decisions.{decisionOf}
+use Rattle.directory.specs.declared.verdicts.Listed.{Listed}
+use Rattle.directory.proofs.Decisions.{decided-sound}
 use Rattle.slotted.proofs.Meaning.{listed-few}
 use Rattle.rows.specs.Rows.{isKept, ascending, rowsAt, fromEnd, Lists, rowIn}
 use Rattle.rows.specs.RowAnswers.{rowsOf, rowOf, startsIn}

@@ -13,13 +13,13 @@ use Rattle.lists.proofs.Picks.{pick-true, pick-false}
 use Rattle.answers.specs.Answers.{isAccepted}
 use Rattle.answers.specs.declared.kinds.Answer.{Answer}
 use Rattle.rows.specs.Rows.{ascending, rowsAt, headOr, rowIn, startOf, endOf}
-use Rattle.slotted.specs.Decisions.{answerOf, decisionOf}
+use Rattle.directory.specs.Decisions.{answerOf, decisionOf}
 use Rattle.rows.specs.RowAnswers.{rowsIn, rowsOf, rowOf, spanAnswer, rowAnswerOf, rowFoundOf}
-use Rattle.slotted.specs.declared.verdicts.Decided.{Decided}
+use Rattle.directory.specs.declared.verdicts.Decided.{Decided}
 use Rattle.rows.specs.declared.spans.Span.{Span}
 use Rattle.rows.specs.declared.spans.Span.the-variants.{At, NoRow}
 use Rattle.rows.proofs.FarEnd.{Up, rows-up}
-use Rattle.slotted.proofs.Decisions.{decided-sound}
+use Rattle.directory.proofs.Decisions.{decided-sound}
 
 -- the rows ascend below 0xFF0
 pub rows-ascend : (lim : ℕ) (plain : List ℕ) (lenient : Bool) → Up (rowsOf lim plain lenient)

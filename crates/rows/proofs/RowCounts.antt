@@ -8,7 +8,7 @@ use lib.ListN.{length, length-append}
 use Rattle.lists.specs.Bytes.{pairAt}
 use Rattle.lists.specs.Pieces.{each, keep}
 use Rattle.lists.proofs.Keep.{keep-yes, keep-no}
-use Rattle.slotted.specs.Directory.{slotsOf}
+use Rattle.directory.specs.Directory.{slotsOf}
 use Rattle.rows.specs.Rows.{isKept, rowsAt}
 use Rattle.rows.proofs.FarEnd.{rows-length}
 

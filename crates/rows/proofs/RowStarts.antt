@@ -11,10 +11,10 @@ use Rattle.lists.specs.Pieces.{over}
 use Rattle.lists.proofs.Over.{over-length}
 use Rattle.lists.proofs.Filled.{fill-none, front-more, fill-all}
 use Rattle.answers.specs.declared.kinds.Answer.{Answer}
-use Rattle.slotted.specs.Directory.{slotsOf, Falls}
-use Rattle.slotted.specs.Decisions.{answerOf, decisionOf}
+use Rattle.directory.specs.Directory.{slotsOf, Falls}
+use Rattle.directory.specs.Decisions.{answerOf, decisionOf}
 use Rattle.slotted.specs.Parses.{parsedOf}
-use Rattle.slotted.specs.declared.verdicts.Decided.{Decided}
+use Rattle.directory.specs.declared.verdicts.Decided.{Decided}
 use Rattle.slotted.proofs.Parses.{answer-is}
 use Rattle.rows.specs.Rows.{isKept, rowsAt, fromEnd}
 use Rattle.rows.specs.RowAnswers.{rowsIn, rowsOf, startsIn, StartsWritten, StartsListed}

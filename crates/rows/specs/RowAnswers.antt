@@ -9,10 +9,10 @@ use Rattle.lists.specs.Pieces.{over}
 use Rattle.answers.specs.Answers.{isAccepted}
 use Rattle.answers.specs.declared.kinds.Answer.{Answer}
 use Rattle.answers.specs.declared.kinds.Answer.the-variants as answer
-use Rattle.slotted.specs.Decisions.{answerOf, decisionOf}
+use Rattle.directory.specs.Decisions.{answerOf, decisionOf}
 use Rattle.slotted.specs.Parses.{parsedOf}
-use Rattle.slotted.specs.declared.verdicts.Listed.{Listed}
-use Rattle.slotted.specs.declared.verdicts.Decided.{Decided}
+use Rattle.directory.specs.declared.verdicts.Listed.{Listed}
+use Rattle.directory.specs.declared.verdicts.Decided.{Decided}
 use Rattle.rows.specs.Rows.{rowsAt, rowIn}
 use Rattle.rows.specs.declared.spans.Span.{Span}
 use Rattle.rows.specs.declared.spans.Span.the-variants.{At, NoRow}

@@ -11,7 +11,7 @@ use Rattle.lists.specs.Bytes.{byteAt, pairAt}
 use Rattle.lists.specs.Counts.{count}
 use Rattle.lists.specs.Sorting.{insert}
 use Rattle.lists.specs.Pieces.{keep}
-use Rattle.slotted.specs.Directory.{slotsOf}
+use Rattle.directory.specs.Directory.{slotsOf}
 use Rattle.rows.specs.declared.spans.Row.{Row}
 use Rattle.rows.specs.declared.spans.Span.{Span}
 use Rattle.rows.specs.declared.spans.Span.the-variants.{At, NoRow}

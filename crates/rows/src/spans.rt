@@ -1,16 +1,16 @@
 // The rows of a page: each is asked for by its number, the first being 0.
 use answers::Answer;
 use answers::Options;
+use directory::decide;
 use numbers::pair;
 use slots::SEARCH_LIMIT;
-use slotted::decide;
 ghost use mathlib.Core.Path.{_≡_};
 ghost use Prim.Native.Nat.{_+_, _*_, _<_, _≤_};
 ghost use lib.ListN.{length};
 ghost use Rattle.lists.specs.Bytes.{pairAt};
 ghost use Rattle.answers.specs.Settings.{directory};
 ghost use Rattle.slots.specs.Slots.{searchLimit};
-ghost use Rattle.slotted.specs.Directory.{Sound};
+ghost use Rattle.directory.specs.Directory.{Sound};
 ghost use Rattle.rows.specs.Rows.{isKept, rowsAt, rowIn, startOf, endOf, IsPart, IsRow};
 ghost use Rattle.rows.specs.RowAnswers.{rowsOf, rowOf, rowAnswerOf, rowFoundOf, rowsCountedOf, spanAnswer};
 

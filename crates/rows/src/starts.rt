@@ -3,11 +3,11 @@ use crate::spans::RowsCounted;
 use crate::spans::is_kept;
 use crate::spans::slot_at;
 use answers::Options;
+use directory::decide;
 use slots::SEARCH_LIMIT;
-use slotted::decide;
 ghost use Rattle.answers.specs.Settings.{directory};
 ghost use Rattle.slots.specs.Slots.{searchLimit};
-ghost use Rattle.slotted.specs.Directory.{Sound};
+ghost use Rattle.directory.specs.Directory.{Sound};
 ghost use Rattle.rows.specs.Rows.{rowsAt};
 ghost use Rattle.rows.specs.RowAnswers.{StartsWritten, StartsListed};
 

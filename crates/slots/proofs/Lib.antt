@@ -3,11 +3,6 @@ pub mod Words
 pub mod Scanned
 pub mod Sweeps
 pub mod Limits
-pub mod Runs
 pub mod RowCounts
-pub mod Fields
-pub mod Passing
 pub mod Pages
 pub mod Best
-pub mod Broken
-pub mod Starts

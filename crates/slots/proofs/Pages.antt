@@ -12,11 +12,10 @@ use borrow.Author.Tests.{ltb-true, leb-true}
 use Rattle.lists.specs.Cases.{pick}
 use Rattle.lists.specs.Bytes.{less, plainOf, byteAt, pairAt}
 use Rattle.lists.proofs.Plain.{plain-length, plain-at}
-use Rattle.slots.specs.Slots.{isOffset, words, wordsFrom, opening, slotsAt, trim, liveOf, arrayStart, scanAt, scanFrom, stronger, bestScan, directoryFrom, scannedDirectory, countedBack, counted, rowCountMatches, dataEnd, declaredSlots, runOf, noted, gapNoted, fieldNoted, preludeOf}
+use Rattle.slots.specs.Slots.{isOffset, words, wordsFrom, opening, slotsAt, trim, liveOf, arrayStart, scanAt, scanFrom, stronger, bestScan, directoryFrom, scannedDirectory, countedBack, counted, rowCountMatches}
 use Rattle.slots.specs.declared.scans.Scan.{Scan}
 use Rattle.slots.specs.declared.scans.Found.{Found}
 use Rattle.slots.specs.declared.scans.Found.the-variants.{Directory, Nothing}
-use Rattle.slots.specs.declared.preludes.Prelude.{Prelude}
 use Rattle.slots.proofs.RowCounts.{directory-start}
 
 -- a plain page is its own plaintext at bv = 0
@@ -90,30 +89,3 @@ module _ (a b : List ℕ) where
           let x : countedBack (a ++ b) (d .start) n 6 ≡ countedBack a (d .start) n 6 = back-data (d .start) n 6 h (omega arith) in
           let y : countedBack (a ++ b) (d .start) n 4 ≡ countedBack a (d .start) n 4 = back-data (d .start) n 4 h (omega arith) in
           ap (λ (v : Bool). v || countedBack (a ++ b) (d .start) n 4) x ∙ ap (λ (v : Bool). countedBack a (d .start) n 6 || v) y
-
-  -- the prelude search reads the data to 0xFF0, and the data has that length at least
-  module _ (n : ℕ) (full : 0xFF0 ≤ length a) where
-    declared-data : (start : ℕ) → declaredSlots (a ++ b) n start ≡ declaredSlots a n start
-    unfolding declaredSlots
-    declared-data start =
-        let e : length (a ++ b) ≡ length a + length b = length-append a b in
-        let m : min (start + 2 * n) (dataEnd (a ++ b)) ≡ min (start + 2 * n) (dataEnd a) = omega arith in
-        ap (λ (k : ℕ). slotsAt k (a ++ b) start) m ∙ slots-data (min (start + 2 * n) (dataEnd a)) start (omega arith)
-
-    gap-data : (field gap : ℕ) (seen : Prelude) → field + 6 ≤ 0xFF0 → gapNoted (a ++ b) n field gap seen ≡ gapNoted a n field gap seen
-    unfolding gapNoted
-    gap-data field gap seen h =
-        ap (λ (k : ℕ). pick (eqb gap 4 || eqb k 0) (noted n (field + gap) (runOf (declaredSlots (a ++ b) n (field + gap))) seen) seen) (pair-data (field + 4) (omega arith))
-        ∙ ap (λ (l : List ℕ). pick (eqb gap 4 || eqb (pairAt a (field + 4)) 0) (noted n (field + gap) (runOf l) seen) seen) (declared-data (field + gap))
-
-    field-data : (field : ℕ) (seen : Prelude) → field + 6 ≤ 0xFF0 → fieldNoted (a ++ b) n field seen ≡ fieldNoted a n field seen
-    unfolding fieldNoted
-    field-data field seen h =
-        ap (λ (k : ℕ). pick (eqb k n) (gapNoted (a ++ b) n field 6 (gapNoted (a ++ b) n field 4 seen)) seen) (pair-data field (omega arith))
-        ∙ ap (λ (x : Prelude). pick (eqb (pairAt a field) n) (gapNoted (a ++ b) n field 6 x) seen) (gap-data field 4 seen h)
-        ∙ ap (λ (x : Prelude). pick (eqb (pairAt a field) n) x seen) (gap-data field 6 (gapNoted a n field 4 seen) h)
-
-    pub prelude-data : (lim : ℕ) → lim + 5 ≤ 0xFF0 → preludeOf lim (a ++ b) n ≡ preludeOf lim a n
-    unfolding preludeOf
-    prelude-data zero h = refl
-    prelude-data (suc f) h = ap (fieldNoted (a ++ b) n f) (prelude-data f (omega arith)) ∙ field-data f (preludeOf f a n) (omega arith)

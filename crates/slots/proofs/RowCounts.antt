@@ -14,7 +14,7 @@ use Rattle.lists.proofs.Booleans.{or-no-left, or-no-right}
 use Rattle.lists.specs.Cases.{pick}
 use Rattle.lists.specs.Bytes.{byteAt, pairAt}
 use Rattle.slots.specs.Slots.{isOffset, arrayStart, scanFrom, stronger, bestScan, directoryFrom, scannedDirectory, countedBack, counted, rowCountMatches, pageMatches}
-use Rattle.slots.specs.Sweep.{hasPair}
+use Rattle.slots.specs.Pairs.{hasPair}
 use Rattle.slots.specs.declared.scans.Scan.{Scan}
 use Rattle.slots.specs.declared.scans.Found.{Found}
 use Rattle.slots.specs.declared.scans.Found.the-variants.{Directory, Nothing}

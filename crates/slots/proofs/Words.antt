@@ -1,19 +1,20 @@
--- Laws of the pairs of a list of bytes, below a limit, and of slot values. Assumes nothing.
+-- Laws of the pairs of a list of bytes, below a limit, of slot values, and of how many slots there is room for. Assumes nothing.
 use Prim.Native.Nat.{ℕ, suc, _+_, _-_, _*_, _≤_, _<_}
 use mathlib.Core.Path.{_≡_, refl, sym, ap, _∙_}
 use mathlib.Core.List.{List, [], _∷_}
-use mathlib.Core.Bool.{true}
+use mathlib.Core.Bool.{Bool, true, false, _&&_}
 use native.Mathlib.Omega.{arith}
 use native.Mathlib.Numerals.{add-one, add-two}
 use native.Mathlib.Nat.{le-of-suc-le-suc, not-suc-le-zero}
 use lib.ListN.{length, getD, take, drop, length-take, length-drop}
 use lib.Seq.{drop-cons, getD-take, length-take-le}
-use lib.Dec.{ltb, leb}
+use lib.Dec.{ltb, leb, eqb}
 use borrow.Author.Tests.{leb-true, ltb-true}
+use Rattle.lists.specs.Cases.{pick}
 use Rattle.lists.specs.Bytes.{plainOf, pairAt}
 use Rattle.lists.proofs.Booleans.{and-left, and-right}
 use Rattle.lists.proofs.Plain.{plain-length}
-use Rattle.slots.specs.Slots.{isOffset, words, wordsFrom}
+use Rattle.slots.specs.Slots.{isOffset, words, wordsFrom, falling, opening, slotsAt}
 
 module _ (lim : ℕ) (p : List ℕ) (at : ℕ) (le : lim ≤ length p) where
   -- one pair at a time
@@ -74,3 +75,27 @@ module _ (w : ℕ) (o : isOffset w ≡ true) where
 -- a limit within the bytes is within the plain ones
 pub fits : (lim bv : ℕ) (xs : List ℕ) → lim ≤ length xs → lim ≤ length (plainOf bv xs)
 fits lim bv xs h = rw plain-length h
+
+-- a run has no more slots than the limit has room for
+falling-few : (prev : ℕ) (ws : List ℕ) → length (falling prev ws) ≤ length ws
+unfolding falling
+falling-few prev [] = omega arith
+falling-few prev (w ∷ ws) = go (eqb w 0) (isOffset w && ltb w prev) (falling-few prev ws) (falling-few w ws)
+  where
+    go : (b d : Bool) → length (falling prev ws) ≤ length ws → length (falling w ws) ≤ length ws → length (pick b (0 ∷ falling prev ws) (pick d (w ∷ falling w ws) [])) ≤ suc (length ws)
+    go true d h k = omega arith
+    go false true h k = omega arith
+    go false false h k = omega arith
+
+opening-few : (ws : List ℕ) → length (opening ws) ≤ length ws
+unfolding opening
+opening-few [] = omega arith
+opening-few (w ∷ ws) = go (isOffset w) (falling-few w ws)
+  where
+    go : (b : Bool) → length (falling w ws) ≤ length ws → length (pick b (w ∷ falling w ws) []) ≤ suc (length ws)
+    go true h = omega arith
+    go false h = omega arith
+
+pub slots-few : (lim : ℕ) (p : List ℕ) (at : ℕ) → 2 * length (slotsAt lim p at) ≤ lim - at
+unfolding slotsAt
+slots-few lim p at = omega (arith, opening-few (wordsFrom lim p at), words-fit lim p at)

@@ -1,8 +1,7 @@
--- The slot directory: what the scan, the row-count test and the prelude search find; what the scan's directory and an answer of the prelude
--- search mean; and what the scan keeps on its one pass.
+-- The slot directory: what the scan and the row-count test find; what the scan's directory means; what is looked for first; and what the
+-- scan keeps on its one pass.
 pub mod Slots
 pub mod Best
-pub mod Starts
+pub mod Pairs
 -- private
 pub mod Sweep
-pub mod Passes

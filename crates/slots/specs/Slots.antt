@@ -1,8 +1,8 @@
--- Document 01, "Slots and rows": slot values, the scan, the row-count test and the prelude search, on the bytes `plain` of a page. `lim` is
--- the search limit. Assumes nothing.
-use Prim.Native.Nat.{ℕ, zero, suc, _+_, _-_, _*_, min}
+-- Document 01, "Slots and rows": slot values, the scan and the row-count test, on the bytes `plain` of a page. `lim` is the search limit.
+-- Assumes nothing.
+use Prim.Native.Nat.{ℕ, zero, suc, _+_, _-_, _*_}
 use mathlib.Core.List.{List, [], _∷_}
-use mathlib.Core.Bool.{Bool, true, false, _&&_, _||_, not}
+use mathlib.Core.Bool.{Bool, true, false, _&&_, _||_}
 use lib.ListN.{length, take, drop}
 use lib.Dec.{ltb, leb, eqb}
 use Rattle.lists.specs.Cases.{pick}
@@ -10,9 +10,6 @@ use Rattle.lists.specs.Bytes.{byteAt, pairAt}
 use Rattle.slots.specs.declared.scans.Scan.{Scan}
 use Rattle.slots.specs.declared.scans.Found.{Found}
 use Rattle.slots.specs.declared.scans.Found.the-variants.{Directory, Nothing}
-use Rattle.slots.specs.declared.preludes.Run.{Run}
-use Rattle.slots.specs.declared.preludes.Prelude.{Prelude}
-use Rattle.slots.specs.declared.preludes.Prelude.the-variants.{Missing, Truncated, One, Several}
 
 -- "from each start 0 to 0x2FF", "a field 0 to 0x2FF": a scan stays in the first 768 bytes, and a prelude's field stands there, as slotted.rs's
 -- SEARCH_LIMIT has it
@@ -108,53 +105,3 @@ rowCountMatches lim plain n t = leb t n && counted plain n (scannedDirectory lim
 -- the same of a whole page, which has its row count at 0xFF0; another length answers no
 unfoldable pub pageMatches : ℕ → List ℕ → ℕ → Bool
 pageMatches lim plain t = eqb (length plain) 4096 && rowCountMatches lim plain (byteAt plain 0xFF0) t
-
--- a prelude's slots: at most n from its start on, and none that reaches past the data
-abbrev pub dataEnd : List ℕ → ℕ
-dataEnd plain = min (length plain) 0xFF0
-
-unfoldable pub declaredSlots : List ℕ → ℕ → ℕ → List ℕ
-declaredSlots plain n start = slotsAt (min (start + 2 * n) (dataEnd plain)) plain start
-
-abbrev pub runOf : List ℕ → Run
-runOf l = record { taken = length l; live = liveOf l }
-
--- "n slots, .. the first nonzero": there is a first one only if it is live
-unfoldable pub whole : ℕ → Run → Bool
-whole n r = leb 1 (r .live) && eqb (r .taken) n
-
--- "if incomplete, .. keep the longest with at least 4 live as truncated, the earliest on a tie"
-unfoldable pub longer : ℕ → Run → Bool
-longer found r = leb 4 (r .live) && ltb found (r .taken)
-
--- what the slots at `start` make of a search that has seen no start, and `found` slots of a truncated directory
-abbrev pub firstNoted : ℕ → ℕ → Run → ℕ → Prelude → Prelude
-firstNoted n start r found seen = pick (whole n r) (One start) (pick (longer found r) (Truncated (r .taken) (start + 2 * r .taken)) seen)
-
--- "equal starts count once"
-unfoldable pub noted : ℕ → ℕ → Run → Prelude → Prelude
-noted n start r Missing = firstNoted n start r 0 Missing
-noted n start r (Truncated found stop) = firstNoted n start r found (Truncated found stop)
-noted n start r (One s) = pick (whole n r && not (eqb start s)) Several (One s)
-noted n start r Several = Several
-
--- "slots at field + 4, or at field + 6 if the pair at field + 4 is 0"
-unfoldable pub gapNoted : List ℕ → ℕ → ℕ → ℕ → Prelude → Prelude
-gapNoted plain n field gap seen =
-    pick (eqb gap 4 || eqb (pairAt plain (field + 4)) 0) (noted n (field + gap) (runOf (declaredSlots plain n (field + gap))) seen) seen
-
--- "a field .. whose pair equals the row count n"; "gap 4 before 6"
-unfoldable pub fieldNoted : List ℕ → ℕ → ℕ → Prelude → Prelude
-fieldNoted plain n field seen = pick (eqb (pairAt plain field) n) (gapNoted plain n field 6 (gapNoted plain n field 4 seen)) seen
-
--- "fields ascend": what the fields 0, .., lim - 1 show. What it means: `Starts.prelude-tells`
-unfoldable pub preludeOf : ℕ → List ℕ → ℕ → Prelude
-preludeOf zero plain n = Missing
-preludeOf (suc f) plain n = fieldNoted plain n f (preludeOf f plain n)
-
--- the search is over once a second start was seen
-abbrev pub several : Prelude → Bool
-several Missing = false
-several (Truncated found stop) = false
-several (One s) = false
-several Several = true

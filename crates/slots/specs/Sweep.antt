@@ -4,7 +4,6 @@ use mathlib.Core.List.{List, [], _∷_}
 use mathlib.Core.Bool.{Bool, true, false, _&&_, _||_}
 use lib.Dec.{ltb, leb, eqb}
 use Rattle.lists.specs.Cases.{pick}
-use Rattle.lists.specs.Bytes.{byteAt}
 use Rattle.slots.specs.Slots.{isOffset, stronger}
 use Rattle.slots.specs.declared.scans.Scan.{Scan}
 use Rattle.slots.specs.declared.scans.Tail.{Tail}
@@ -38,8 +37,3 @@ tailScan s t = pick (leb 1 (t .live) && leb (t .gap) 1) (record { start = s + 2 
 -- the better of the scan from a start and the best of the later ones, if it has four live slots
 unfoldable pub strongerKept : Scan → Scan → Scan
 strongerKept b best = pick (leb 4 (b .live)) (stronger b best) best
-
--- a and then b at one of the positions 0, .., n - 1: what the row-count test looks for before it scans
-unfoldable pub hasPair : ℕ → ℕ → List ℕ → ℕ → Bool
-hasPair a b plain zero = false
-hasPair a b plain (suc i) = hasPair a b plain i || (eqb (byteAt plain i) a && eqb (byteAt plain (i + 1)) b)

@@ -10,7 +10,7 @@ ghost use lib.Dec.{eqb};
 ghost use lib.ListN.{length};
 ghost use Rattle.lists.specs.Bytes.{plainOf};
 ghost use Rattle.slots.specs.Slots.{searchLimit, countedBack, rowCountMatches, pageMatches};
-ghost use Rattle.slots.specs.Sweep.{hasPair};
+ghost use Rattle.slots.specs.Pairs.{hasPair};
 
 // The test of a page's data less bv, with the stored row count n and T. Without the pair (n, 0) below the limit the answer is no, with
 // no scan: most wrong bv end there.
@@ -20,7 +20,7 @@ pub fn trailer_row_count_matches(bytes: &[u8], bv: u8, limit: usize, n: u8, t: u
     if n < t {
         return false;
     }
-    if !may_count(bytes, bv, limit, n) {
+    if !has_count(bytes, bv, limit, n) {
         return false;
     }
     let Found::Directory(d) = scanned_directory(bytes, bv, limit) else {
@@ -43,8 +43,9 @@ pub fn page_row_count_matches(plain: &[u8], t: u8) -> bool
     trailer_row_count_matches(plain, 0, SEARCH_LIMIT, plain[0xFF0], t)
 }
 
-// What the test needs, whatever the scan finds.
-fn may_count(bytes: &[u8], bv: u8, limit: usize, n: u8) -> bool
+// Whether n and 0 stand next to each other, the first of them below the limit: what the test needs, whatever the scan finds, and what a
+// prelude's field holds.
+pub fn has_count(bytes: &[u8], bv: u8, limit: usize, n: u8) -> bool
     ensures { λ r. ⌜ r ≡ hasPair n 0 (plainOf bv (now (bytes .entry))) (min limit (length (now (bytes .entry)) - 1)) ⌝ }
 {
     let length = bytes.len();
@@ -52,14 +53,13 @@ fn may_count(bytes: &[u8], bv: u8, limit: usize, n: u8) -> bool
         return false;
     }
     if length <= limit {
-        return has_count(bytes, bv, length - 1, n);
+        return has_pair(bytes, bv, length - 1, n);
     }
-    has_count(bytes, bv, limit, n)
+    has_pair(bytes, bv, limit, n)
 }
 
-// Whether n and 0 stand next to each other, the first of them below the limit. No way out but the end: the loop then takes many bytes
-// at a time.
-pub(crate) fn has_count(bytes: &[u8], bv: u8, limit: usize, n: u8) -> bool
+// The same of a limit within the bytes. No way out but the end: the loop then takes many bytes at a time.
+fn has_pair(bytes: &[u8], bv: u8, limit: usize, n: u8) -> bool
     requires { ⌜ limit < length (now bytes) ⌝ }
     ensures { λ r. ⌜ r ≡ hasPair n 0 (plainOf bv (now (bytes .entry))) limit ⌝ }
 {

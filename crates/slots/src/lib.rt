@@ -1,20 +1,19 @@
-// The slot directory of a page: document 01, "Slots and rows", up to the parse. It carries over slotted.rs's scanned_directory,
-// scan_from and prelude_candidates, and verify.rs's trailer_row_count_matches.
+// The slot directory of a page: document 01, "Slots and rows", the scan and the row-count test. It carries over slotted.rs's
+// scanned_directory and scan_from, and verify.rs's trailer_row_count_matches.
 //
 // Every function takes bytes and the bv to take off each, 0 for a plain page: a candidate bv is tested with no plaintext copy.
 // The scan departs from the original's, which starts anew at each of 768 positions: it goes once from the limit down to 0.
 mod counts;
-mod preludes;
 mod scans;
 mod values;
 
+pub use counts::has_count;
 pub use counts::page_row_count_matches;
 pub use counts::trailer_row_count_matches;
-pub use preludes::Prelude;
-pub use preludes::prelude_candidates;
 pub use scans::Found;
 pub use scans::Scan;
 pub use scans::scanned_directory;
+pub use values::is_offset;
 
 // The definition searchLimit: a directory is looked for in the first 768 bytes.
 pub const SEARCH_LIMIT: usize = 0x300;

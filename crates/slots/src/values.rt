@@ -20,7 +20,7 @@ pub(crate) fn pair_at(bytes: &[u8], bv: u8, i: usize) -> usize
     pair(plain_byte(bytes[i], bv), plain_byte(bytes[i + 1], bv)) as usize
 }
 
-pub(crate) fn is_offset(v: usize) -> bool
+pub fn is_offset(v: usize) -> bool
     ensures { λ r. ⌜ r ≡ isOffset v ⌝ }
 {
     0x20 <= v && v < 0xFF0

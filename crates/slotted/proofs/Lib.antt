@@ -1,7 +1,4 @@
--- Laws of what the search finds, of what the parse decides and says, of its answer with tables; then what they mean.
-pub mod Found
-pub mod LastLive
-pub mod Decisions
+-- Laws of what the parse says, and of its answer with tables; then what they mean.
 pub mod Located
 pub mod Parses
 pub mod Meaning

@@ -13,14 +13,14 @@ use Rattle.answers.specs.declared.notices.WarningKind.{WarningKind}
 use Rattle.answers.specs.declared.notices.WarningKind.the-variants.{Nothing}
 use Rattle.answers.specs.declared.notices.Warning.{Warning}
 use Rattle.answers.specs.declared.notices.ParseWarnings.{ParseWarnings}
-use Rattle.slotted.specs.Directory.{Sound}
-use Rattle.slotted.specs.Decisions.{answerOf, decisionOf}
+use Rattle.directory.specs.Directory.{Sound}
+use Rattle.directory.specs.Decisions.{answerOf, decisionOf}
 use Rattle.slotted.specs.Locations.{isGiven, ofPage, firstThree, givenOf, locatedBy, locatedOf, notedOf, inOrder}
 use Rattle.slotted.specs.Parses.{warned, warningTable}
-use Rattle.slotted.specs.declared.verdicts.Decided.{Decided}
+use Rattle.directory.specs.declared.verdicts.Decided.{Decided}
 use Rattle.slotted.specs.declared.locations.Given.{Given}
 use Rattle.slotted.specs.declared.locations.Located.{Located}
-use Rattle.slotted.proofs.Decisions.{decided-sound}
+use Rattle.directory.proofs.Decisions.{decided-sound}
 
 -- one warning, given or not
 module _ (kind : WarningKind) (b : Bool) (e : b ≡ isGiven kind) where

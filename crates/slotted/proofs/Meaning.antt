@@ -1,6 +1,6 @@
 -- What the parse comes to: at most three warnings; a directory that fits its table; a small value that says the same. Assumes nothing.
 use Prim.Native.Nat.{ℕ, _+_, _*_, _≤_, _<_, min}
-use mathlib.Core.Path.{_≡_, refl, sym, ap, _∙_}
+use mathlib.Core.Path.{_≡_, refl, sym, ap, subst, _∙_}
 use mathlib.Core.List.{List}
 use mathlib.Core.Bool.{Bool, true, false}
 use native.Mathlib.Omega.{arith}
@@ -12,13 +12,14 @@ use Rattle.answers.specs.Warns.{warningNumber, noParseWarnings, withParseWarnin
 use Rattle.answers.specs.declared.notices.WarningKind.{WarningKind}
 use Rattle.answers.specs.declared.notices.ParseWarnings.{ParseWarnings}
 use Rattle.slots.specs.Slots.{searchLimit}
-use Rattle.slotted.specs.Directory.{slotsOf}
-use Rattle.slotted.specs.Decisions.{decisionOf}
+use Rattle.directory.specs.Directory.{slotsOf}
+use Rattle.directory.specs.Decisions.{decisionOf}
 use Rattle.slotted.specs.Locations.{locatedOf}
 use Rattle.slotted.specs.Parses.{tableOf, warned, parsedOf, SaysTheParse}
-use Rattle.slotted.specs.declared.verdicts.Decided.{Decided}
-use Rattle.slotted.proofs.Found.{scanned-few}
-use Rattle.slotted.proofs.Decisions.{decided-holds}
+use Rattle.directory.specs.declared.verdicts.Decided.{Decided}
+use Rattle.slotted.specs.declared.locations.Located.{Located}
+use Rattle.directory.proofs.Found.{scanned-few}
+use Rattle.directory.proofs.Decisions.{decided-holds}
 use Rattle.slotted.proofs.Located.{table-given}
 
 one-more : (t : ParseWarnings) (number : ℕ) (kind : WarningKind) (n : ℕ) → t .len ≤ n → warned t number kind .len ≤ n + 1
@@ -76,3 +77,12 @@ located-says number plain lenient b =
       first-three = unfold noParseWarnings in ap (λ (t : ParseWarnings). take 3 (t .items)) (sym table);
       no-other = ap (λ (t : ParseWarnings). drop 3 (t .items)) table ∙ unfold noParseWarnings in refl;
     }
+
+-- a value that is equal to it: few slots, and the parse's
+module _ (number : ℕ) (plain : List ℕ) (lenient : Bool) (small : byteAt plain 0xFF0 < 256) (l : Located) (e : l ≡ locatedOf searchLimit number plain lenient) where
+  pub located-few : l .listed .count ≤ 384
+  unfolding locatedOf
+  located-few = subst (λ (x : Located). x .listed .count ≤ 384) (sym e) (listed-few plain lenient small)
+
+  pub located-parse : SaysTheParse plain l (parsedOf searchLimit number plain lenient)
+  located-parse = subst (λ (x : Located). SaysTheParse plain x (parsedOf searchLimit number plain lenient)) (sym e) (located-says number plain lenient small)

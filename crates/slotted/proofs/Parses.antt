@@ -11,12 +11,12 @@ use Rattle.lists.specs.Pieces.{each}
 use Rattle.lists.proofs.Each.{each-more, each-length}
 use Rattle.answers.specs.declared.kinds.Answer.{Answer}
 use Rattle.answers.specs.declared.notices.ParseWarnings.{ParseWarnings}
-use Rattle.slotted.specs.Directory.{slotsOf}
-use Rattle.slotted.specs.Decisions.{answerOf, decisionOf}
+use Rattle.directory.specs.Directory.{slotsOf}
+use Rattle.directory.specs.Decisions.{answerOf, decisionOf}
 use Rattle.slotted.specs.Locations.{locatedOf}
 use Rattle.slotted.specs.Parses.{tableOf, directoryOf, warningTable, parsedOf}
-use Rattle.slotted.specs.declared.verdicts.Listed.{Listed}
-use Rattle.slotted.specs.declared.verdicts.Decided.{Decided}
+use Rattle.directory.specs.declared.verdicts.Listed.{Listed}
+use Rattle.directory.specs.declared.verdicts.Decided.{Decided}
 use Rattle.slotted.specs.declared.locations.Located.{Located}
 use Rattle.slotted.specs.declared.directories.SlotDirectory.{SlotDirectory}
 use Rattle.slotted.specs.declared.directories.Parsed.{Parsed}

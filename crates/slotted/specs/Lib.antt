@@ -1,5 +1,3 @@
--- The parse: the slots of a directory, what the parse decides, what it says in a small value, and its answer with tables.
-pub mod Directory
-pub mod Decisions
+-- What the parse says in a small value, and its answer with tables.
 pub mod Locations
 pub mod Parses

@@ -9,8 +9,8 @@ use Rattle.lists.specs.Pieces.{keep}
 use Rattle.answers.specs.Warns.{warningNumber, blankWarning}
 use Rattle.answers.specs.declared.notices.WarningKind.{WarningKind}
 use Rattle.answers.specs.declared.notices.Warning.{Warning}
-use Rattle.slotted.specs.Decisions.{answerOf, decisionOf}
-use Rattle.slotted.specs.declared.verdicts.Decided.{Decided}
+use Rattle.directory.specs.Decisions.{answerOf, decisionOf}
+use Rattle.directory.specs.declared.verdicts.Decided.{Decided}
 use Rattle.slotted.specs.declared.locations.Given.{Given}
 use Rattle.slotted.specs.declared.locations.Located.{Located}
 

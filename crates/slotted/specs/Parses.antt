@@ -10,10 +10,10 @@ use Rattle.lists.specs.Cases.{pick}
 use Rattle.answers.specs.Warns.{warningNumber, blankWarning, noParseWarnings, withParseWarning}
 use Rattle.answers.specs.declared.notices.WarningKind.{WarningKind}
 use Rattle.answers.specs.declared.notices.ParseWarnings.{ParseWarnings}
-use Rattle.slotted.specs.Directory.{slotsOf}
-use Rattle.slotted.specs.Decisions.{answerOf, decisionOf}
-use Rattle.slotted.specs.declared.verdicts.Listed.{Listed}
-use Rattle.slotted.specs.declared.verdicts.Decided.{Decided}
+use Rattle.directory.specs.Directory.{slotsOf}
+use Rattle.directory.specs.Decisions.{answerOf, decisionOf}
+use Rattle.directory.specs.declared.verdicts.Listed.{Listed}
+use Rattle.directory.specs.declared.verdicts.Decided.{Decided}
 use Rattle.slotted.specs.declared.locations.Given.{Given}
 use Rattle.slotted.specs.declared.locations.Located.{Located}
 use Rattle.slotted.specs.declared.directories.SlotDirectory.{SlotDirectory}

@@ -1,13 +1,13 @@
 // The parse's answer with document 01's tables, made of what `locate` says and of the page.
 use crate::locations::Given;
 use crate::locations::locate;
-use crate::verdicts::Declared;
-use crate::verdicts::Listed;
-use crate::verdicts::decide;
-use crate::verdicts::slot_at;
 use answers::Answer;
 use answers::Options;
 use answers::ParseWarnings;
+use directory::Declared;
+use directory::Listed;
+use directory::decide;
+use numbers::pair;
 use slots::SEARCH_LIMIT;
 ghost use mathlib.Core.Path.{_≡_};
 ghost use mathlib.Core.List.{[]};
@@ -15,7 +15,7 @@ ghost use Prim.Native.Nat.{_+_, _*_, _≤_, min};
 ghost use lib.ListN.{length};
 ghost use Rattle.slots.specs.Slots.{searchLimit};
 ghost use Rattle.answers.specs.Settings.{directory};
-ghost use Rattle.slotted.specs.Directory.{slotsOf, Sound};
+ghost use Rattle.directory.specs.Directory.{slotsOf, Sound};
 ghost use Rattle.slotted.specs.Parses.{tableOf, directoryOf, warningTable, parsedOf};
 
 // `array_start` and `end` are byte offsets; the slots are in array order, zeros deleted ones, and 0 stands in the places past `len`.
@@ -112,7 +112,8 @@ fn slot_table(plain: &[u8], start: usize, count: usize) -> [u16; 384]
     let mut table = no_slots();
     let mut k: usize = 0;
     while k < room {
-        table[k] = slot_at(plain, start + 2 * k);
+        let i = start + 2 * k;
+        table[k] = pair(plain[i], plain[i + 1]);
         k += 1;
     }
     table

@@ -1,10 +1,10 @@
 // What the parse says in a small value, with no table: its answer, where the directory is, and the warnings.
-use crate::verdicts::Listed;
-use crate::verdicts::decide;
 use answers::Answer;
 use answers::Options;
 use answers::Warning;
 use answers::WarningKind;
+use directory::Listed;
+use directory::decide;
 use slots::SEARCH_LIMIT;
 ghost use mathlib.Core.Path.{_≡_};
 ghost use mathlib.Core.List.{[], _∷_};

@@ -7,7 +7,7 @@ use Rattle.answers.specs.Settings.{directory}
 use Rattle.answers.specs.declared.settings.Options.{Options}
 use Rattle.slots.specs.Slots.{searchLimit}
 use Rattle.slotted.specs.Parses.{parsedOf}
-use Rattle.row_layout.specs.RowLayouts.{parseBytes}
+use Rattle.parse_layout.specs.ParseLayouts.{parseBytes}
 use Rattle.lumeviqo.proofs.directories.lumeviqo_parse.Statement.{statement}
 use Rattle.lumeviqo.proofs.directories.lumeviqo_parse.Tie as tie
 

@@ -4,7 +4,7 @@ use native.Mathlib.Omega.{arith}
 use Rattle.rows.specs.Rows.{rowsAt}
 use Rattle.fields.proofs.Puts.{layout-short}
 use Rattle.row_layout.proofs.Sizes.{list-size}
-use Rattle.row_layout.proofs.Slots.{rows-put}
+use Rattle.row_layout.proofs.Starts.{rows-put}
 use Rattle.row_layout.proofs.listings.put_rows.Statement.{statement}
 use Rattle.row_layout.proofs.listings.put_rows.Tie as tie
 

@@ -5,11 +5,10 @@ use mathlib.Core.Path.{_≡_, sym, subst, _∙_}
 use native.Mathlib.Omega.{arith}
 use lib.ListN.{length, set, length-set}
 use Rattle.lists.specs.Pieces.{joined}
-use Rattle.fields.specs.Fields.{Put}
+use Rattle.fields.specs.Fields.{pairEntry, Put}
 use Rattle.rows.specs.Rows.{rowsAt}
 use Rattle.rows.proofs.RowStarts.{Listing, list-none, list-skip, list-at, list-more, list-all}
-use Rattle.row_layout.specs.RowLayouts.{slotEntry}
-use Rattle.row_layout.proofs.Slots.{slots-none, slots-more}
+use Rattle.fields.proofs.Pairs.{pairs-none, pairs-more}
 use Rattle.row_layout.proofs.listings.put_starts.Statement.{statement}
 use Rattle.row_layout.proofs.listings.put_starts.Tie as tie
 
@@ -17,7 +16,7 @@ abbrev Inv-loop : tie.InvT-loop
 Inv-loop out₀ at plain start count stop rows₀ k₀ out rows k =
     Listing plain start count stop k rows
     × (length out ≡ length out₀)
-    × Put out₀ at (joined (slotEntry (rowsAt plain start count)) rows) out (at + 2 * rows)
+    × Put out₀ at (joined (pairEntry (rowsAt plain start count)) rows) out (at + 2 * rows)
 
 abbrev μ-loop : tie.MeasureT-loop
 μ-loop out₀ at plain start count stop rows₀ k₀ out rows k = k
@@ -25,7 +24,7 @@ abbrev μ-loop : tie.MeasureT-loop
 loop-holds : tie.Need-loop-holds Inv-loop μ-loop
 loop-holds c =
     let a = c .before .before .args in
-    (list-none _ _ _ (c .before .before .pre .0 .falls), search needs, slots-none (rowsAt (a .plain .now) (a .start) (a .count)) _ _)
+    (list-none _ _ _ (c .before .before .pre .0 .falls), search needs, pairs-none (rowsAt (a .plain .now) (a .start) (a .count)) _ _)
 
 loop-again : tie.Need-loop-again Inv-loop μ-loop
 loop-again c =
@@ -41,9 +40,9 @@ loop-again c =
     let place = a .at + 2 * l .loop .rows in (
       list-more (a .plain .now) (a .start) (a .count) _ (l .loop .k) (l .loop .rows) g (q .pair .result) some is kept,
       simp length-set (l .loop .inv .1),
-      subst (λ (v : ℕ). Put (a .out .now) (a .at) (joined (slotEntry rows) (l .loop .rows + 1)) (set (set (l .loop .out) place (v % 256)) (place + 1) (v / 256 % 256)) (a .at + 2 * (l .loop .rows + 1)))
+      subst (λ (v : ℕ). Put (a .out .now) (a .at) (joined (pairEntry rows) (l .loop .rows + 1)) (set (set (l .loop .out) place (v % 256)) (place + 1) (v / 256 % 256)) (a .at + 2 * (l .loop .rows + 1)))
           at
-          (slots-more rows (a .out .now) (a .at) (l .loop .out) (l .loop .rows) (l .loop .inv .2) (omega (arith, g .within, l .loop .inv .1))),
+          (pairs-more rows (a .out .now) (a .at) (l .loop .out) (l .loop .rows) (l .loop .inv .2) (omega (arith, g .within, l .loop .inv .1))),
     )
 
 loop-again-2 : tie.Need-loop-again-2 Inv-loop μ-loop

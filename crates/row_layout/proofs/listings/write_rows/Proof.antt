@@ -1,12 +1,15 @@
 -- `write_rows` meets its contract: the answer part, and the rows of what is listed.
 use borrow.Author.Needs.{needs}
-use Prim.Native.Nat.{ℕ, _<_}
+use Prim.Native.Nat.{_<_}
 use native.Mathlib.Omega.{arith}
 use Rattle.lists.specs.Bytes.{byteAt}
 use Rattle.answers.specs.Settings.{directory}
+use Rattle.slots.specs.Slots.{searchLimit}
+use Rattle.slotted.proofs.Located.{sound-located}
+use Rattle.slotted.proofs.Meaning.{located-few}
 use Rattle.fields.proofs.Puts.{layout-short}
 use Rattle.row_layout.proofs.Sizes.{rows-size}
-use Rattle.row_layout.proofs.Wholes.{located-within, located-few, rows-written}
+use Rattle.row_layout.proofs.Wholes.{rows-written}
 use Rattle.row_layout.proofs.listings.write_rows.Statement.{statement}
 use Rattle.row_layout.proofs.listings.write_rows.Tie as tie
 
@@ -15,9 +18,9 @@ put-rows-requires c κs =
     let l = c .before .before .before .before .before .before in
     let known = l .before .before in
     let a = known .before .before .args in
-    let bytes : (i : ℕ) → byteAt (a .plain .now) i < 256 = λ i. omega (arith, known .shared-slice-known .given i) in (
-      located-within (a .number) (a .plain .now) (directory (a .options)) bytes (l .locate .result) (l .locate .ensures),
-      located-few (a .number) (a .plain .now) (directory (a .options)) bytes (l .locate .result) (l .locate .ensures),
+    let small : byteAt (a .plain .now) 0xFF0 < 256 = omega (arith, known .shared-slice-known .given 0xFF0) in (
+      sound-located searchLimit (a .number) (a .plain .now) (directory (a .options)) (l .locate .result) (l .locate .ensures),
+      located-few (a .number) (a .plain .now) (directory (a .options)) small (l .locate .result) (l .locate .ensures),
     )
 
 returns-2 : tie.Need-returns-2
@@ -27,7 +30,7 @@ returns-2 c =
     let l = answer .before .before .before in
     let known = l .before .before in
     let a = known .before .before .args in
-    rows-written (a .number) (a .plain .now) (directory (a .options)) (λ i. omega (arith, known .shared-slice-known .given i)) (l .locate .result) (l .locate .ensures)
+    rows-written (a .number) (a .plain .now) (directory (a .options)) (omega (arith, known .shared-slice-known .given 0xFF0)) (l .locate .result) (l .locate .ensures)
     (answer .put-answer .ensures) (rows .put-rows .ensures) (omega arith)
 
 pub write-rows-spec : {M : Type 1} → statement M

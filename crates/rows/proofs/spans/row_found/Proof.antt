@@ -3,9 +3,9 @@ use borrow.Author.Tests.{not-true, not-false}
 use mathlib.Core.Path.{ap, _∙_}
 use Rattle.answers.specs.Settings.{directory}
 use Rattle.slots.specs.Slots.{searchLimit}
-use Rattle.slotted.specs.Decisions.{decisionOf}
+use Rattle.directory.specs.Decisions.{decisionOf}
 use Rattle.rows.specs.Rows.{rowIn}
-use Rattle.slotted.proofs.Decisions.{sound-decided}
+use Rattle.directory.proofs.Decisions.{sound-decided}
 use Rattle.rows.proofs.RowAnswers.{rows-decided, found-refused, found-row}
 use borrow.Author.Needs.{needs}
 use Rattle.rows.proofs.spans.row_found.Statement.{statement}

@@ -2,9 +2,9 @@
 use mathlib.Core.Path.{ap, _∙_}
 use Rattle.answers.specs.Settings.{directory}
 use Rattle.slots.specs.Slots.{searchLimit}
-use Rattle.slotted.specs.Decisions.{decisionOf}
+use Rattle.directory.specs.Decisions.{decisionOf}
 use lib.ListN.{length}
-use Rattle.slotted.proofs.Decisions.{sound-decided}
+use Rattle.directory.proofs.Decisions.{sound-decided}
 use Rattle.slotted.proofs.Parses.{answer-is}
 use Rattle.rows.proofs.RowAnswers.{rows-decided}
 use borrow.Author.Needs.{needs}

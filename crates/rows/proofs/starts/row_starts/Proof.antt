@@ -2,8 +2,8 @@
 use mathlib.Core.Path.{ap, _∙_}
 use Rattle.answers.specs.Settings.{directory}
 use Rattle.slots.specs.Slots.{searchLimit}
-use Rattle.slotted.specs.Decisions.{decisionOf}
-use Rattle.slotted.proofs.Decisions.{sound-decided}
+use Rattle.directory.specs.Decisions.{decisionOf}
+use Rattle.directory.proofs.Decisions.{sound-decided}
 use Rattle.rows.proofs.RowStarts.{starts-decided}
 use borrow.Author.Needs.{needs}
 use Rattle.rows.proofs.starts.row_starts.Statement.{statement}

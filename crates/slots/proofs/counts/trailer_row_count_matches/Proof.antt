@@ -17,7 +17,7 @@ returns-2 : tie.Need-returns-2
 returns-2 c =
     let a = c .before .before .before .before .args in
     let n : length (plainOf (a .bv) (a .bytes .now)) ≡ length (a .bytes .now) = plain-length (a .bv) (a .bytes .now) in
-    no-pair (a .limit) (plainOf (a .bv) (a .bytes .now)) (a .n) (a .t) (rw n (sym (c .before .may-count .ensures) ∙ not-true _ (c .if2 .taken)))
+    no-pair (a .limit) (plainOf (a .bv) (a .bytes .now)) (a .n) (a .t) (rw n (sym (c .before .has-count .ensures) ∙ not-true _ (c .if2 .taken)))
 
 returns-3 : tie.Need-returns-3
 returns-3 c =

@@ -2,7 +2,7 @@
 use mathlib.Core.Path.{ap, _∙_}
 use Rattle.answers.specs.Settings.{directory}
 use Rattle.slots.specs.Slots.{searchLimit}
-use Rattle.slotted.specs.Decisions.{decisionOf}
+use Rattle.directory.specs.Decisions.{decisionOf}
 use Rattle.slotted.proofs.Parses.{answer-is}
 use borrow.Author.Needs.{needs}
 use Rattle.slotted.proofs.directories.parse_answer.Statement.{statement}

@@ -3,7 +3,7 @@ use borrow.Author.Needs.{needs}
 use mathlib.Core.Path.{_≡_, ap, _∙_}
 use native.Mathlib.Omega.{arith}
 use Prim.Native.Nat.{ℕ, _-_, _≤_}
-use Rattle.slotted.specs.Directory.{slotsOf}
+use Rattle.directory.specs.Directory.{slotsOf}
 use Rattle.slotted.specs.Parses.{tableOf}
 use Rattle.slotted.proofs.Parses.{table-none, table-more, table-all}
 use Rattle.slotted.proofs.directories.slot_table.Statement.{statement}
@@ -22,10 +22,10 @@ loop-holds c =
 
 loop-again : tie.Need-loop-again Inv-loop μ-loop
 loop-again c =
-    let l = c .before .before in
+    let l = c .before .before .before .before in
     let r = l .before .before in
     let a = r .before .before .args in
-    (search needs, table-more (a .plain .now) (a .start) (l .loop .k) (c .slot-at .result) (l .loop .table) (omega (arith, r .room-for .ensures)) (c .slot-at .ensures) (l .loop .inv .1))
+    (search needs, table-more (a .plain .now) (a .start) (l .loop .k) (c .pair .result) (l .loop .table) (omega (arith, r .room-for .ensures)) (c .pair .ensures) (l .loop .inv .1))
 
 returns : tie.Need-returns Inv-loop μ-loop
 returns c =
@@ -43,6 +43,9 @@ slot-table-spec =
     (λ c κs. search needs)
     (λ c κs. search needs)
     loop-holds
+    (λ c. search needs)
+    (λ c. search needs)
+    (λ c. search needs)
     (λ c. search needs)
     (λ c. search needs)
     (λ c κs. search needs)
