@@ -33,26 +33,43 @@ fn put(page: &mut [u8], at: u16, value: u16) {
     page[i + 1] = (value / 256) as u8;
 }
 
+// Where the next pair goes, and what was read of it.
+struct Pair {
+    at: u16,
+    value: u16,
+}
+
 // Pairs in hexadecimal: "40:5 44:F00,E00" has 5 at 0x40, 0xF00 at 0x44 and 0xE00 behind it.
 fn lay(page: &mut [u8], pairs: &[u8]) {
-    let mut at: u16 = 0;
-    let mut value: u16 = 0;
+    let mut pair = Pair { at: 0, value: 0 };
     let mut i: usize = 0;
     while i < pairs.len() {
-        let c = pairs[i];
-        if c == b':' {
-            at = value % 4096;
-            value = 0;
-        } else if c == b' ' || c == b',' {
-            put(page, at, value);
-            at = at % 4096 + 2;
-            value = 0;
-        } else {
-            value = value % 4096 * 16 + digits::digit_value(c) as u16;
-        }
+        pair = read(page, pairs[i], pair);
         i += 1;
     }
-    put(page, at, value);
+    put(page, pair.at, pair.value);
+}
+
+fn read(page: &mut [u8], c: u8, pair: Pair) -> Pair {
+    let at = pair.at;
+    let value = pair.value;
+    if c == b':' {
+        return Pair {
+            at: value,
+            value: 0,
+        };
+    }
+    if c == b' ' || c == b',' {
+        put(page, at, value);
+        return Pair {
+            at: at % 4096 + 2,
+            value: 0,
+        };
+    }
+    Pair {
+        at,
+        value: value % 4096 * 16 + (digits::digit_value(c) % 16) as u16,
+    }
 }
 
 fn answer(a: Answer) {
