@@ -3,8 +3,8 @@ use answers::Answer;
 use libc::STDOUT_FILENO;
 use page::FormatVersion;
 use page::PageTrailer;
-use page::PageType;
 use page::Superblock;
+use page_type::PageType;
 
 pub(crate) fn findings(number: u64, bytes: &[u8]) {
     text(b"crc32 ");
@@ -149,7 +149,7 @@ pub(crate) fn type_bytes() {
 pub(crate) fn variants() {
     let mut b: u64 = 0;
     while b < 256 {
-        mark(page::case_variant(b as u8));
+        mark(page_type::case_variant(b as u8));
         b += 1;
     }
     text(b"\n");

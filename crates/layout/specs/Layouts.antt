@@ -4,9 +4,9 @@ use mathlib.Core.List.{List, [], _∷_, _++_}
 use Rattle.lists.specs.Cases.{flag}
 use Rattle.answers.specs.Trust.{sourceNumber, confidenceNumber}
 use Rattle.answers.specs.declared.kinds.Answer.{Answer}
-use Rattle.page.specs.Types.{byteOf}
-use Rattle.page.specs.declared.types.PageType.{PageType}
-use Rattle.page.specs.declared.types.PageType.the-variants.{Extent, Alloc, Map, Header, Catalog, Bootstrap, Index, Other}
+use Rattle.page_type.specs.Types.{byteOf}
+use Rattle.page_type.specs.declared.PageType.{PageType}
+use Rattle.page_type.specs.declared.PageType.the-variants.{Extent, Alloc, Map, Header, Catalog, Bootstrap, Index, Other}
 use Rattle.page.specs.declared.trailers.PageTrailer.{PageTrailer}
 use Rattle.page.specs.declared.trailers.TrailerAnswer.{TrailerAnswer}
 use Rattle.page.specs.declared.superblocks.Superblock.{Superblock}

@@ -9,10 +9,10 @@ use numbers::put_u8;
 use numbers::put_u16;
 use numbers::put_u32;
 use page::PageTrailer;
-use page::PageType;
 use page::Superblock;
 use page::SuperblockAnswer;
 use page::TrailerAnswer;
+use page_type::PageType;
 use parts::ANSWER_SIZE;
 use parts::put_answer;
 

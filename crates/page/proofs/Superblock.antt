@@ -1,5 +1,5 @@
--- Laws of the superblock: a law for each answer, and what the version's test and the variant bits mean. Assumes nothing.
-use Prim.Native.Nat.{ℕ, _+_, _*_, _/_, _%_, _<_}
+-- Laws of the superblock: a law for each answer, and what the version's test, the variant bits and the marker's mark mean. Assumes nothing.
+use Prim.Native.Nat.{ℕ, _+_, _*_, _/_, _%_, _≤_, _<_}
 use native.Mathlib.Omega.{arith}
 use lib.Bits.{bitAnd, and-step, and-mask}
 use mathlib.Core.Path.{_≡_, refl}
@@ -8,11 +8,12 @@ use mathlib.Core.Logic.{_↔_}
 use mathlib.Core.List.{List}
 use borrow.Author.Tests.{eq-eqb, ne-eqb, eqb-true}
 use lib.Dec.{eqb}
-use lib.ListN.{length}
+use lib.ListN.{length, getD}
 use Rattle.lists.specs.Cases.{pick}
 use Rattle.lists.proofs.Picks.{never-both}
+use Rattle.marker.proofs.Search.{occurs-iff}
 use Rattle.answers.specs.declared.kinds.Answer.the-variants.{WrongPageLength, BadMagic}
-use Rattle.page.specs.Superblock.{sa17, isSupported, variantBits, magicOf, refusedSuperblock, acceptedSuperblock, superblockAnswer, checkedSuperblock}
+use Rattle.page.specs.Superblock.{sa17, isSupported, variantBits, magicOf, marker, superblockOf, refusedSuperblock, acceptedSuperblock, superblockAnswer, checkedSuperblock}
 use Rattle.page.specs.declared.superblocks.FormatVersion.{FormatVersion}
 
 module _ (s : List ℕ) where
@@ -71,3 +72,12 @@ variant-bits flags h =
     let eighth : flags / 2 / 2 / 2 ≡ flags / 8 = omega arith in
     rw (← eighth)
     (sum flags _ _ _ _ _ _ _ _ _ (dropped flags 246 refl) (kept (flags / 2) 123 refl) (kept (flags / 2 / 2) 61 refl) (high (flags / 2 / 2 / 2) (omega arith)) (binary flags))
+
+-- the superblock's mark is true just where some place holds all 33 bytes
+pub marker-iff :
+    (s : List ℕ)
+    → (superblockOf s .«sa_marker_present» ≡ true)
+    ↔ ((at : ℕ) × (at + 33 ≤ length s) × ((k : ℕ) → k < 33 → getD s (at + k) 0 ≡ getD marker k 0))
+unfolding superblockOf
+marker-iff s =
+    (λ e. let p = occurs-iff marker s .0 e in (p .0, p .1 .inside, p .1 .bytes), λ p. occurs-iff marker s .1 (p .0, record { inside = p .1; bytes = p .2 }))

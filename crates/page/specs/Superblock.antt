@@ -1,16 +1,16 @@
 -- Document 01, "Page, trailer, superblock": the fields of page 0, read plainly and checked. Assumes nothing.
 use Prim.Native.Nat.{ℕ, _-_}
 use mathlib.Core.Bool.{Bool, false, not}
-use mathlib.Core.List.{List}
+use mathlib.Core.List.{List, [], _∷_}
 use lib.Bits.{bitAnd}
 use lib.Dec.{eqb}
 use lib.ListN.{length}
 use Rattle.lists.specs.Cases.{pick}
 use Rattle.lists.specs.Bytes.{byteAt, pairAt, quadAt}
+use Rattle.marker.specs.Marker.{occursIn}
 use Rattle.answers.specs.declared.kinds.Answer.{Answer}
 use Rattle.answers.specs.declared.kinds.Answer.the-variants.{Accepted, WrongPageLength, BadMagic}
 use Rattle.page.specs.Trailer.{isPage}
-use Rattle.page.specs.Marker.{marker, occursIn}
 use Rattle.page.specs.declared.superblocks.FormatVersion.{FormatVersion}
 use Rattle.page.specs.declared.superblocks.Superblock.{Superblock}
 use Rattle.page.specs.declared.superblocks.SuperblockAnswer.{SuperblockAnswer}
@@ -30,6 +30,13 @@ variantBits flags = bitAnd flags (255 - 0x09)
 -- the magic, at 0x14
 abbrev pub magicOf : List ℕ → ℕ
 magicOf stored = quadAt stored 0x14
+
+-- the 33 bytes "SAP SE, Copyright (c)2015 17.0.4."
+abbrev pub marker : List ℕ
+marker =
+    0x53 ∷ 0x41 ∷ 0x50 ∷ 0x20 ∷ 0x53 ∷ 0x45 ∷ 0x2C ∷ 0x20
+    ∷ 0x43 ∷ 0x6F ∷ 0x70 ∷ 0x79 ∷ 0x72 ∷ 0x69 ∷ 0x67 ∷ 0x68 ∷ 0x74 ∷ 0x20 ∷ 0x28 ∷ 0x63 ∷ 0x29
+    ∷ 0x32 ∷ 0x30 ∷ 0x31 ∷ 0x35 ∷ 0x20 ∷ 0x31 ∷ 0x37 ∷ 0x2E ∷ 0x30 ∷ 0x2E ∷ 0x34 ∷ 0x2E ∷ []
 
 -- flags byte 6, LSN at 8, major 0x10, magic 0x14, version halves 0x18 and 0x1A, page hint 0x1C, and the marker anywhere
 unfoldable pub superblockOf : List ℕ → Superblock

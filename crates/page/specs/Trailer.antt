@@ -8,8 +8,8 @@ use Rattle.lists.specs.Cases.{pick}
 use Rattle.lists.specs.Bytes.{byteAt, quadAt}
 use Rattle.lists.specs.Counts.{allAre}
 use Rattle.answers.specs.declared.kinds.Answer.the-variants as answer
-use Rattle.page.specs.Types.{isVariant, typeOf}
-use Rattle.page.specs.declared.types.PageType.the-variants.{Other}
+use Rattle.page_type.specs.Types.{isVariant, typeOf}
+use Rattle.page_type.specs.declared.PageType.the-variants.{Other}
 use Rattle.page.specs.declared.trailers.PageTrailer.{PageTrailer}
 use Rattle.page.specs.declared.trailers.TrailerAnswer.{TrailerAnswer}
 

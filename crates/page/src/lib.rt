@@ -6,10 +6,8 @@
 // checked superblock is a function of the page alone, where the original tests the magic in its store.
 mod fields;
 mod integrity;
-mod markers;
 mod superblocks;
 mod trailers;
-mod types;
 
 pub use integrity::check_integrity;
 pub use integrity::check_written;
@@ -21,5 +19,3 @@ pub use superblocks::SuperblockAnswer;
 pub use trailers::PAGE_SIZE;
 pub use trailers::PageTrailer;
 pub use trailers::TrailerAnswer;
-pub use types::PageType;
-pub use types::case_variant;

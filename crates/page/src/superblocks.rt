@@ -4,9 +4,9 @@ ghost use lib.ListN.{length};
 ghost use Rattle.page.specs.Superblock.{isSupported, superblockOf, superblockAnswer, checkedSuperblock, refusedSuperblock};
 use crate::fields::pair;
 use crate::fields::quad;
-use crate::markers::occurs;
 use crate::trailers::PAGE_SIZE;
 use answers::Answer;
+use marker::occurs;
 
 // Stored as 5E BA 7A DA.
 pub const SA_MAGIC: u32 = 0xDA7A_BA5E;

@@ -3,9 +3,9 @@ ghost use mathlib.Core.Path.{_≡_};
 ghost use lib.ListN.{length};
 ghost use Rattle.page.specs.Trailer.{trailerOf, blankTrailer, reservedZero, trailerAnswer};
 use crate::fields::quad;
-use crate::types::PageType;
-use crate::types::case_variant;
 use answers::Answer;
+use page_type::PageType;
+use page_type::case_variant;
 
 // Eight sectors of 512 bytes, the last cut short by the trailer.
 pub const PAGE_SIZE: usize = 4096;

@@ -1,6 +1,6 @@
-// Page types, from the letter in the trailer.
+// Page types, from the letter in the trailer: document 01, "Page, trailer, superblock". It carries over the original's page.rs, PageType.
 ghost use mathlib.Core.Path.{_≡_};
-ghost use Rattle.page.specs.Types.{isVariant, upperOf, typeOf, byteOf};
+ghost use Rattle.page_type.specs.Types.{isVariant, upperOf, typeOf, byteOf};
 
 pub enum PageType {
     Extent,

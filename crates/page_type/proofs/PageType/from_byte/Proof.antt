@@ -1,9 +1,9 @@
 -- `page::types::PageType::from_byte` meets its contract: an arm's letter is its key; in the last arm it is none of them. Assumes nothing.
 use borrow.Author.Tests.{ne-eqb}
-use Rattle.page.specs.Types.{letterOf}
+use Rattle.page_type.specs.Types.{letterOf}
 use borrow.Author.Needs.{needs}
-use Rattle.page.proofs.types.PageType.from_byte.Statement.{statement}
-use Rattle.page.proofs.types.PageType.from_byte.Tie as tie
+use Rattle.page_type.proofs.PageType.from_byte.Statement.{statement}
+use Rattle.page_type.proofs.PageType.from_byte.Tie as tie
 
 returns : tie.Need-returns
 unfolding letterOf

@@ -3,10 +3,10 @@ use borrow.Author.Needs.{needs}
 use Prim.Native.Nat.{_≤_, _-_}
 use mathlib.Core.Path.{_≡_, refl, sym, _∙_}
 use lib.ListN.{length, drop}
-use Rattle.page.specs.Marker.{occursIn}
-use Rattle.page.proofs.Occurs.{occurs-end, occurs-here, occurs-past}
-use Rattle.page.proofs.markers.occurs.Statement.{statement}
-use Rattle.page.proofs.markers.occurs.Tie as tie
+use Rattle.marker.specs.Marker.{occursIn}
+use Rattle.marker.proofs.Search.{occurs-end, occurs-here, occurs-past}
+use Rattle.marker.proofs.occurs.Statement.{statement}
+use Rattle.marker.proofs.occurs.Tie as tie
 
 abbrev Inv-loop : tie.InvT-loop
 Inv-loop marker bytes at₀ at = (at ≤ length bytes) × (occursIn marker (drop at bytes) ≡ occursIn marker bytes)

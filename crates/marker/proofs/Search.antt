@@ -13,8 +13,7 @@ use lib.ListN.{length, getD, take, drop, length-drop, drop-of-length-le}
 use lib.Seq.{drop-cons, drop-length, take-all}
 use Rattle.lists.specs.Cases.{pick}
 use Rattle.lists.proofs.Picks.{never-both}
-use Rattle.page.specs.Marker.{startsWith, occursIn, marker}
-use Rattle.page.specs.Superblock.{superblockOf}
+use Rattle.marker.specs.Marker.{startsWith, occursIn}
 
 -- the marker is held against the bytes from its front
 module _ (m s : List ℕ) (i : ℕ) where
@@ -123,12 +122,3 @@ stands-occurs m (y ∷ s) (suc at) t = pick-either (startsWith m (y ∷ s)) (sta
 
 pub occurs-iff : (m s : List ℕ) → (occursIn m s ≡ true) ↔ ((at : ℕ) × Stands m s at)
 occurs-iff m s = (occurs-stands m s, λ p. stands-occurs m s (p .0) (p .1))
-
--- the superblock's mark is true just where some place holds all 33 bytes
-pub marker-iff :
-    (s : List ℕ)
-    → (superblockOf s .«sa_marker_present» ≡ true)
-    ↔ ((at : ℕ) × (at + 33 ≤ length s) × ((k : ℕ) → k < 33 → getD s (at + k) 0 ≡ getD marker k 0))
-unfolding superblockOf
-marker-iff s =
-    (λ e. let p = occurs-stands marker s e in (p .0, p .1 .inside, p .1 .bytes), λ p. stands-occurs marker s (p .0) (record { inside = p .1; bytes = p .2 }))

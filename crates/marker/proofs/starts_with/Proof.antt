@@ -3,10 +3,10 @@ use borrow.Author.Needs.{needs}
 use Prim.Native.Nat.{_≤_, _-_}
 use mathlib.Core.Path.{_≡_, refl, sym, _∙_}
 use lib.ListN.{length, drop}
-use Rattle.page.specs.Marker.{startsWith}
-use Rattle.page.proofs.Occurs.{starts-all, starts-short, starts-differ, starts-same}
-use Rattle.page.proofs.markers.starts_with.Statement.{statement}
-use Rattle.page.proofs.markers.starts_with.Tie as tie
+use Rattle.marker.specs.Marker.{startsWith}
+use Rattle.marker.proofs.Search.{starts-all, starts-short, starts-differ, starts-same}
+use Rattle.marker.proofs.starts_with.Statement.{statement}
+use Rattle.marker.proofs.starts_with.Tie as tie
 
 abbrev Inv-loop : tie.InvT-loop
 Inv-loop bytes marker i₀ i = (i ≤ length marker) × (startsWith (drop i marker) (drop i bytes) ≡ startsWith marker bytes)

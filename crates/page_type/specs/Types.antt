@@ -3,8 +3,8 @@ use Prim.Native.Nat.{ℕ, _-_}
 use mathlib.Core.Bool.{Bool, false}
 use lib.Dec.{eqb, leb}
 use Rattle.lists.specs.Cases.{pick}
-use Rattle.page.specs.declared.types.PageType.{PageType}
-use Rattle.page.specs.declared.types.PageType.the-variants.{Extent, Alloc, Map, Header, Catalog, Bootstrap, Index, Other}
+use Rattle.page_type.specs.declared.PageType.{PageType}
+use Rattle.page_type.specs.declared.PageType.the-variants.{Extent, Alloc, Map, Header, Catalog, Bootstrap, Index, Other}
 
 -- the bytes 0x61 to 0x7A, a to z, are case variants, and no other
 abbrev pub isVariant : ℕ → Bool

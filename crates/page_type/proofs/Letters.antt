@@ -8,9 +8,9 @@ use borrow.Author.Tests.{le-leb, lt-leb, leb-true, eqb-true}
 use lib.Dec.{eqb, leb}
 use Rattle.lists.specs.Cases.{pick}
 use Rattle.lists.proofs.Picks.{pick-case, never-both}
-use Rattle.page.specs.Types.{isVariant, upperOf, letterOf, typeOf, byteOf}
-use Rattle.page.specs.declared.types.PageType.{PageType}
-use Rattle.page.specs.declared.types.PageType.the-variants.{Extent, Alloc, Map, Header, Catalog, Bootstrap, Index, Other}
+use Rattle.page_type.specs.Types.{isVariant, upperOf, letterOf, typeOf, byteOf}
+use Rattle.page_type.specs.declared.PageType.{PageType}
+use Rattle.page_type.specs.declared.PageType.the-variants.{Extent, Alloc, Map, Header, Catalog, Bootstrap, Index, Other}
 
 -- which case it is, from what the code tested
 variant-letter : (b : ℕ) → 0x61 ≤ b → b ≤ 0x7A → isVariant b ≡ true

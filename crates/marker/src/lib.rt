@@ -1,8 +1,9 @@
-// Whether one run of bytes occurs in another.
+// Whether one run of bytes occurs in another: document 01, "Page, trailer, superblock", the marker on page 0. It carries over the search in the
+// original's superblock.rs.
 ghost use mathlib.Core.Path.{_≡_};
-ghost use Rattle.page.specs.Marker.{startsWith, occursIn};
+ghost use Rattle.marker.specs.Marker.{startsWith, occursIn};
 
-pub(crate) fn occurs(marker: &[u8], bytes: &[u8]) -> bool
+pub fn occurs(marker: &[u8], bytes: &[u8]) -> bool
     ensures { λ r. ⌜ r ≡ occursIn (now (marker .entry)) (now (bytes .entry)) ⌝ }
 {
     let mut at: usize = 0;

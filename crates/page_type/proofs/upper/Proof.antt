@@ -1,9 +1,9 @@
 -- `page::types::upper` meets its contract, by the laws of the variants. Assumes nothing.
 use mathlib.Core.Path.{sym}
-use Rattle.page.proofs.Letters.{upper-below, upper-above, upper-letter}
+use Rattle.page_type.proofs.Letters.{upper-below, upper-above, upper-letter}
 use borrow.Author.Needs.{needs}
-use Rattle.page.proofs.types.upper.Statement.{statement}
-use Rattle.page.proofs.types.upper.Tie as tie
+use Rattle.page_type.proofs.upper.Statement.{statement}
+use Rattle.page_type.proofs.upper.Tie as tie
 
 returns : tie.Need-returns
 returns c = sym (upper-below _ (search needs))

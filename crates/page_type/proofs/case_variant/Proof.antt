@@ -1,7 +1,7 @@
 -- `page::types::case_variant` meets its contract: both ends of the letters are tested. Assumes nothing.
 use borrow.Author.Tests.{le-leb, lt-leb}
-use Rattle.page.proofs.types.case_variant.Statement.{statement}
-use Rattle.page.proofs.types.case_variant.Tie as tie
+use Rattle.page_type.proofs.case_variant.Statement.{statement}
+use Rattle.page_type.proofs.case_variant.Tie as tie
 
 returns : tie.Need-returns
 returns c = simp (lt-leb _ _ (c .if1 .taken))

@@ -1,0 +1,2 @@
+-- Laws of the search, and what it finds.
+pub mod Search

@@ -1,0 +1,2 @@
+-- Whether one run of bytes occurs in another.
+pub mod Marker

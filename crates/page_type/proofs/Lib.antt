@@ -1,0 +1,2 @@
+-- Laws of the letters of page types.
+pub mod Letters

@@ -1,0 +1,2 @@
+-- The page type.
+pub mod Types
