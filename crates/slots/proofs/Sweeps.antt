@@ -31,13 +31,18 @@ module _ (w : ℕ) (t : Tail) where
   unfolding extended
   extend-other n o = rw (ne-eqb w 0 n, o) refl
 
-  pub extend-more : isOffset w ≡ true → t .value < w → record { value = w; gap = 0; slots = t .gap + t .slots + 1; live = t .live + 1 } ≡ extended w t
+  pub extend-run :
+      isOffset w ≡ true
+      → (n v : ℕ)
+      → n ≡ pick (ltb (t .value) w) (t .gap + t .slots) 0
+      → v ≡ pick (ltb (t .value) w) (t .live) 0
+      → record { value = w; gap = 0; slots = n + 1; live = v + 1 } ≡ extended w t
   unfolding extended
-  extend-more o k = rw (ne-eqb w 0 (offset-pos w o), o, lt-ltb (t .value) w k) refl
-
-  pub extend-first : isOffset w ≡ true → w ≤ t .value → record { value = w; gap = 0; slots = 1; live = 1 } ≡ extended w t
-  unfolding extended
-  extend-first o k = rw (ne-eqb w 0 (offset-pos w o), o, le-ltb (t .value) w k) refl
+  extend-run o n v en ev = rw (ne-eqb w 0 (offset-pos w o), o) (go (ltb (t .value) w) en ev)
+    where
+      go : (c : Bool) → n ≡ pick c (t .gap + t .slots) 0 → v ≡ pick c (t .live) 0 → record { value = w; gap = 0; slots = n + 1; live = v + 1 } ≡ extendedBy false true c w t
+      go true p q = λ i. record { value = w; gap = 0; slots = p i + 1; live = q i + 1 }
+      go false p q = λ i. record { value = w; gap = 0; slots = p i + 1; live = q i + 1 }
 
 -- a tail has no more slots than its list has pairs
 pub record Few (t : Tail) (n : ℕ) : Type 0 where

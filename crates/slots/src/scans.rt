@@ -3,7 +3,9 @@ use crate::values::is_offset;
 use crate::values::pair_at;
 ghost use mathlib.Core.Path.{_≡_};
 ghost use Prim.Native.Nat.{_+_, _*_, _<_, _≤_};
+ghost use lib.Dec.{ltb};
 ghost use lib.ListN.{length};
+ghost use Rattle.lists.specs.Cases.{pick};
 ghost use Rattle.lists.specs.Bytes.{plainOf};
 ghost use Rattle.slots.specs.Slots.{wordsFrom, stronger, directoryFrom, scannedDirectory};
 ghost use Rattle.slots.specs.Sweep.{noTail, extended, tailOf, tailScan, strongerKept};
@@ -118,20 +120,19 @@ fn extend(w: usize, t: Tail) -> Tail
     if !is_offset(w) {
         return no_tail();
     }
-    if value < w {
-        return Tail {
-            value: w,
-            gap: 0,
-            slots: gap + slots + 1,
-            live: live + 1,
-        };
-    }
     Tail {
         value: w,
         gap: 0,
-        slots: 1,
-        live: 1,
+        slots: joined(w, value, gap + slots) + 1,
+        live: joined(w, value, live) + 1,
     }
+}
+
+// What a tail of this value adds to a run with w before it. It chooses a number, not a way: which comes is a toss-up on some pages.
+fn joined(w: usize, value: usize, n: usize) -> usize
+    ensures { λ r. ⌜ (r ≡ pick (ltb value w) n 0) × (r ≤ n) ⌝ }
+{
+    if value < w { n } else { 0 }
 }
 
 // The better of the scan from s and the best of the later ones. One zero pair before the array is skipped, and a scan of fewer than four

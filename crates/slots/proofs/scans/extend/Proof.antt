@@ -1,7 +1,7 @@
 -- `extend` meets its contract, a law of `extended` for each arm.
 use borrow.Author.Tests.{not-true, not-false}
 use mathlib.Core.Path.{sym, _∙_}
-use Rattle.slots.proofs.Sweeps.{extend-zero, extend-other, extend-more, extend-first}
+use Rattle.slots.proofs.Sweeps.{extend-zero, extend-other, extend-run}
 use borrow.Author.Needs.{needs}
 use Rattle.slots.proofs.scans.extend.Statement.{statement}
 use Rattle.slots.proofs.scans.extend.Tie as tie
@@ -13,10 +13,9 @@ returns-2 : tie.Need-returns-2
 returns-2 c = c .no-tail .ensures ∙ extend-other _ _ (c .before .before .before .if1 .left) (sym (c .before .before .is-offset .ensures) ∙ not-true _ (c .before .if2 .taken))
 
 returns-3 : tie.Need-returns-3
-returns-3 c = extend-more _ _ (sym (c .before .before .is-offset .ensures) ∙ not-false _ (c .before .if2 .left)) (c .if3 .taken)
-
-returns-4 : tie.Need-returns-4
-returns-4 c = extend-first _ _ (sym (c .before .before .is-offset .ensures) ∙ not-false _ (c .before .if2 .left)) (c .if3 .left)
+returns-3 c =
+    let slots = c .before in
+    extend-run _ _ (sym (slots .before .before .is-offset .ensures) ∙ not-false _ (slots .before .if2 .left)) _ _ (slots .joined .ensures .0) (c .joined2 .ensures .0)
 
 pub extend-spec : {M : Type 1} → statement M
 extend-spec =
@@ -28,7 +27,8 @@ extend-spec =
     (λ c κs. search needs)
     returns-2
     (λ c. search needs)
+    (λ c κs. search needs)
     (λ c. search needs)
+    (λ c κs. search needs)
     (λ c. search needs)
-    returns-3
-    returns-4)
+    returns-3)
