@@ -407,6 +407,12 @@ module _ (lim : ℕ) (p : List ℕ) (s r : ℕ) (near far : Tail) (best : Scan) 
         ∙ kept-counting (scanFrom lim p r) (bestFrom lim p (r + 1) (lim - (r + 1))) ∙ ap counting (from-more lim p r (omega (arith, g .within)));
   }
 
+-- the last position below the limit has no pair
+pub swept-last : (lim : ℕ) (p : List ℕ) (near far : Tail) → lim ≤ length p → 0 < lim → near ≡ noTail → far ≡ noTail → Swept lim p (lim - 1) near far noScan
+swept-last lim p near far le h e f =
+    swept-more lim p lim (lim - 1) far near noScan (swept-none lim p far near f e) (omega arith) near noScan le (e ∙ tail-end lim p (lim - 1) (omega arith))
+    (kept-few (lim - 1) near noScan (let z : near .live ≡ 0 = ap (λ (t : Tail). t .live) e in omega arith))
+
 pub swept-all : (lim : ℕ) (p : List ℕ) (s : ℕ) (near far : Tail) (best : Scan) → Swept lim p s near far best → s ≡ 0 → directoryFrom best ≡ scannedDirectory lim p
 swept-all lim p s near far best g z =
     ap directoryFrom (g .best-is ∙ ap (λ (k : ℕ). counting (bestFrom lim p k (lim - k))) z) ∙ counting-directory (bestFrom lim p 0 (lim - 0)) ∙ from-start lim p (bestFrom lim p 0 (lim - 0)) refl

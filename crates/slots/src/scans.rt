@@ -42,7 +42,7 @@ pub fn scanned_directory(bytes: &[u8], bv: u8, limit: usize) -> Found
     sweep(bytes, bv, limit)
 }
 
-// Two positions a turn: the tails of even and of odd positions stay in their own places.
+// Two positions a turn: the tails of even and of odd positions stay in their own places. The last position has no pair.
 fn sweep(bytes: &[u8], bv: u8, limit: usize) -> Found
     requires { ⌜ limit ≤ length (now bytes) ⌝ }
     ensures { λ r. ⌜ r ≡ scannedDirectory limit (plainOf bv (now (bytes .entry))) ⌝ }
@@ -54,7 +54,10 @@ fn sweep(bytes: &[u8], bv: u8, limit: usize) -> Found
         slots: 0,
         live: 0,
     };
-    let mut s = limit;
+    if limit == 0 {
+        return directory_of(best);
+    }
+    let mut s = limit - 1;
     while 1 < s {
         far = tail_at(bytes, bv, limit, s - 1, far);
         best = kept(s - 1, far, best);
@@ -90,13 +93,10 @@ fn no_tail() -> Tail
 
 // The tail at s from the tail two bytes on.
 fn tail_at(bytes: &[u8], bv: u8, limit: usize, s: usize, next: Tail) -> Tail
-    requires { ⌜ (limit ≤ length (now bytes)) × (s < limit) ⌝ }
+    requires { ⌜ (limit ≤ length (now bytes)) × (s + 1 < limit) ⌝ }
     requires { ⌜ next ≡ tailOf (wordsFrom limit (plainOf bv (now bytes)) (s + 2)) ⌝ }
     ensures { λ r. ⌜ r ≡ tailOf (wordsFrom limit (plainOf bv (now (bytes .entry))) s) ⌝ }
 {
-    if limit <= s + 1 {
-        return no_tail();
-    }
     extend(pair_at(bytes, bv, s), next)
 }
 
