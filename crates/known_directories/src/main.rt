@@ -50,6 +50,7 @@ fn lay(page: &mut [u8], pairs: &[u8]) {
     put(page, pair.at, pair.value);
 }
 
+// One character more. The remainders only keep the numbers from running over.
 fn read(page: &mut [u8], c: u8, pair: Pair) -> Pair {
     let at = pair.at;
     let value = pair.value;
@@ -228,7 +229,7 @@ fn known(name: &[u8], pairs: &[u8]) {
 
 fn four_rows() {
     let mut page = io::buffer();
-    lay(&mut page, b"FF0:5 40:5 44:F00,E00,D00,C00");
+    lay(&mut page, b"FF0:5 40:5 44:F00,E00,D00,0,C00");
     both(b"four rows", &page);
     text(b"row count at T 5 and 6");
     matches(&page, 5);

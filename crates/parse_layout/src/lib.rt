@@ -48,6 +48,7 @@ pub fn write_parse(out: &mut [u8], number: u64, plain: &[u8], options: Options) 
     put_given(out, at, given)
 }
 
+// The directory with its slots: all of it, or nothing.
 fn put_directory(out: &mut [u8], at: usize, plain: &[u8], l: Listed) -> usize
     requires { ⌜ Sound (now plain) (l .start) (l .count) × (l .count ≤ 384) ⌝ }
     ensures { λ r. ⌜ Wrote (now (out .entry)) at (layoutBytes (foundFields (now (plain .entry)) l)) (now (out .exit)) r ⌝ }

@@ -4,7 +4,7 @@ use numbers::wide;
 use slots::has_count;
 use slots::is_offset;
 ghost use mathlib.Core.Path.{_≡_};
-ghost use Prim.Native.Nat.{_+_, _*_, _-_, _<_, _≤_, min};
+ghost use Prim.Native.Nat.{_+_, _-_, _<_, _≤_, min};
 ghost use lib.ListN.{length};
 ghost use Rattle.lists.specs.Bytes.{pairAt};
 ghost use Rattle.slots.specs.Slots.{slotsAt};

@@ -1,11 +1,11 @@
--- A plain page is the case bv = 0; and the search reads nothing past its limit, so that a page's data and trailer answer what the data
+-- A plain page is the case bv = 0; and the scan reads nothing past its limit, so that a page's data and trailer answer what the data
 -- alone answers. Assumes nothing.
-use Prim.Native.Nat.{ℕ, zero, suc, _+_, _-_, _*_, _≤_, _<_, min}
+use Prim.Native.Nat.{ℕ, zero, suc, _+_, _-_, _≤_, _<_}
 use mathlib.Core.Path.{_≡_, refl, ap, _∙_}
 use mathlib.Core.List.{List, _++_}
 use mathlib.Core.Bool.{Bool, true, false, _&&_, _||_}
 use native.Mathlib.Omega.{arith}
-use lib.ListN.{length, getD, drop, List·getD-append, length-append}
+use lib.ListN.{length, getD, drop, List·getD-append}
 use lib.Seq.{take-append-le, ext-getD}
 use lib.Dec.{ltb, leb, eqb}
 use borrow.Author.Tests.{ltb-true, leb-true}

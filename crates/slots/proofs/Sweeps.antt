@@ -9,7 +9,7 @@ use native.Mathlib.Nat.{not-suc-le-zero}
 use native.Mathlib.Numerals.{add-one}
 use lib.ListN.{length}
 use lib.Dec.{ltb, leb, eqb}
-use borrow.Author.Tests.{eq-eqb, ne-eqb, lt-ltb, le-ltb, le-leb, lt-leb, leb-true, leb-false, ltb-true, eqb-true, eqb-false}
+use borrow.Author.Tests.{eq-eqb, ne-eqb, le-ltb, le-leb, lt-leb, leb-true, leb-false, ltb-true, eqb-true, eqb-false}
 use Rattle.lists.specs.Cases.{pick}
 use Rattle.lists.proofs.Picks.{pick-le}
 use Rattle.lists.specs.Bytes.{pairAt}
@@ -325,7 +325,7 @@ scan-tail lim p s le = go (leb lim (s + 1)) refl (leb lim (s + 3)) refl (eqb (pa
         back _ (at-zero lim p s le (pairAt p s) (pairAt p (s + 2)) k refl (eqb-true (pairAt p s) 0 qc) refl) (tail-zero-next lim p s le (pairAt p s) (pairAt p (s + 2)) k refl (eqb-true (pairAt p s) 0 qc) refl)
 
 -- the tail at a position
-pub tail-end : (lim : ℕ) (p : List ℕ) (s : ℕ) → lim ≤ s + 1 → noTail ≡ tailOf (wordsFrom lim p s)
+tail-end : (lim : ℕ) (p : List ℕ) (s : ℕ) → lim ≤ s + 1 → noTail ≡ tailOf (wordsFrom lim p s)
 unfolding tailOf
 tail-end lim p s h = sym (ap tailOf (words-end lim p s h))
 

@@ -1,7 +1,7 @@
 -- private: no part of the rules. What the scan keeps on its one pass from the limit down to 0; its promise is `scannedDirectory`. Assumes nothing.
-use Prim.Native.Nat.{ℕ, zero, suc, _+_, _*_}
+use Prim.Native.Nat.{ℕ, _+_, _*_}
 use mathlib.Core.List.{List, [], _∷_}
-use mathlib.Core.Bool.{Bool, true, false, _&&_, _||_}
+use mathlib.Core.Bool.{Bool, true, false, _&&_}
 use lib.Dec.{ltb, leb, eqb}
 use Rattle.lists.specs.Cases.{pick}
 use Rattle.slots.specs.Slots.{isOffset, stronger}

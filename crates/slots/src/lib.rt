@@ -1,7 +1,7 @@
 // The slot directory of a page: document 01, "Slots and rows", the scan and the row-count test. It carries over slotted.rs's
 // scanned_directory and scan_from, and verify.rs's trailer_row_count_matches.
 //
-// A function over bytes takes the bv to take off each, 0 for a plain page: a candidate bv is tested with no plaintext copy.
+// A search takes bytes and the bv to take off each, 0 for a plain page: a candidate bv is tested with no plaintext copy.
 // The scan departs from the original's, which starts anew at each of 768 positions: it goes once from the limit down to 0.
 mod counts;
 mod scans;

@@ -2,7 +2,7 @@
 use crate::values::is_offset;
 use crate::values::pair_at;
 ghost use mathlib.Core.Path.{_≡_};
-ghost use Prim.Native.Nat.{_+_, _*_, _<_, _≤_};
+ghost use Prim.Native.Nat.{_+_, _<_, _≤_};
 ghost use lib.Dec.{ltb};
 ghost use lib.ListN.{length};
 ghost use Rattle.lists.specs.Cases.{pick};
@@ -123,13 +123,13 @@ fn extend(w: usize, t: Tail) -> Tail
     Tail {
         value: w,
         gap: 0,
-        slots: joined(w, value, gap + slots) + 1,
-        live: joined(w, value, live) + 1,
+        slots: carried(w, value, gap + slots) + 1,
+        live: carried(w, value, live) + 1,
     }
 }
 
 // What a tail of this value adds to a run with w before it. It chooses a number, not a way: which comes is a toss-up on some pages.
-fn joined(w: usize, value: usize, n: usize) -> usize
+fn carried(w: usize, value: usize, n: usize) -> usize
     ensures { λ r. ⌜ (r ≡ pick (ltb value w) n 0) × (r ≤ n) ⌝ }
 {
     if value < w { n } else { 0 }

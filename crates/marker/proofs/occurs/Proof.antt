@@ -1,4 +1,4 @@
--- `page::markers::occurs` meets its contract: the marker occurs in what is left just where it occurs in the whole. Assumes nothing.
+-- `marker::occurs` meets its contract: the marker occurs in what is left just where it occurs in the whole. Assumes nothing.
 use borrow.Author.Needs.{needs}
 use Prim.Native.Nat.{_≤_, _-_}
 use mathlib.Core.Path.{_≡_, refl, sym, _∙_}

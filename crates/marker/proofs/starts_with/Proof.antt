@@ -1,4 +1,4 @@
--- `page::markers::starts_with` meets its contract: what is left of both begins alike just where the whole does. Assumes nothing.
+-- `marker::starts_with` meets its contract: what is left of both begins alike just where the whole does. Assumes nothing.
 use borrow.Author.Needs.{needs}
 use Prim.Native.Nat.{_≤_, _-_}
 use mathlib.Core.Path.{_≡_, refl, sym, _∙_}

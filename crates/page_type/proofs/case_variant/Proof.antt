@@ -1,4 +1,4 @@
--- `page::types::case_variant` meets its contract: both ends of the letters are tested. Assumes nothing.
+-- `page_type::case_variant` meets its contract: both ends of the letters are tested. Assumes nothing.
 use borrow.Author.Tests.{le-leb, lt-leb}
 use Rattle.page_type.proofs.case_variant.Statement.{statement}
 use Rattle.page_type.proofs.case_variant.Tie as tie

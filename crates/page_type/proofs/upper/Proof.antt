@@ -1,4 +1,4 @@
--- `page::types::upper` meets its contract, by the laws of the variants. Assumes nothing.
+-- `page_type::upper` meets its contract, by the laws of the variants. Assumes nothing.
 use mathlib.Core.Path.{sym}
 use Rattle.page_type.proofs.Letters.{upper-below, upper-above, upper-letter}
 use borrow.Author.Needs.{needs}

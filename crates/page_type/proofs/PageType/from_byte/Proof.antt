@@ -1,4 +1,4 @@
--- `page::types::PageType::from_byte` meets its contract: an arm's letter is its key; in the last arm it is none of them. Assumes nothing.
+-- `page_type::PageType::from_byte` meets its contract: an arm's letter is its key; in the last arm it is none of them. Assumes nothing.
 use borrow.Author.Tests.{ne-eqb}
 use Rattle.page_type.specs.Types.{letterOf}
 use borrow.Author.Needs.{needs}

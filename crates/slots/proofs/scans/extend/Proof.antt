@@ -15,7 +15,7 @@ returns-2 c = c .no-tail .ensures ∙ extend-other _ _ (c .before .before .befor
 returns-3 : tie.Need-returns-3
 returns-3 c =
     let slots = c .before in
-    extend-run _ _ (sym (slots .before .before .is-offset .ensures) ∙ not-false _ (slots .before .if2 .left)) _ _ (slots .joined .ensures .0) (c .joined2 .ensures .0)
+    extend-run _ _ (sym (slots .before .before .is-offset .ensures) ∙ not-false _ (slots .before .if2 .left)) _ _ (slots .carried .ensures .0) (c .carried2 .ensures .0)
 
 pub extend-spec : {M : Type 1} → statement M
 extend-spec =
