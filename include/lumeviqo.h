@@ -27,9 +27,9 @@
 extern "C" {
 #endif
 
-/* The version of this page, which rises with every change of a layout, and with every new answer or kind. lumeviqo_version() is that of
-   the library: where the two differ no other function may be called. */
-#define LUMEVIQO_VERSION 2
+/* The version of this page, which rises with every change of a layout or of what a function takes, and with every new answer or kind.
+   lumeviqo_version() is that of the library: where the two differ no other function may be called. */
+#define LUMEVIQO_VERSION 3
 
 /* Buffers: a page, stored or plain; its shifted bytes, which are those before the trailer; a sector, and the last of the eight. */
 #define LUMEVIQO_PAGE_LENGTH 4096
@@ -46,7 +46,7 @@ extern "C" {
 #define LUMEVIQO_MOST_EVIDENCE 4
 #define LUMEVIQO_MOST_WARNINGS 10 /* of a decoding */
 #define LUMEVIQO_MOST_PARSE_WARNINGS 3
-#define LUMEVIQO_MOST_SLOTS 384 /* and rows */
+#define LUMEVIQO_MOST_SLOTS 1024 /* and rows */
 
 /* Parts of layouts. Every layout begins with an answer part. */
 
@@ -138,19 +138,19 @@ extern "C" {
 #define LUMEVIQO_DECODING_LENGTH (LUMEVIQO_DECODING_WARNINGS + LUMEVIQO_MOST_WARNINGS * LUMEVIQO_WARNING_LENGTH)
 
 /* Parse. */
-#define LUMEVIQO_PARSE_FOUND 40           /* flag        there is a directory; if not, the next fields up to the warnings are 0 */
-#define LUMEVIQO_PARSE_START 41           /* u16         where its array starts */
-#define LUMEVIQO_PARSE_END 43             /* u16         where its array ends */
-#define LUMEVIQO_PARSE_SLOT_COUNT 45      /* u16         how many slots it has, 0 to 384 */
-#define LUMEVIQO_PARSE_DECLARED 47        /* flag        a prelude declared their number */
-#define LUMEVIQO_PARSE_DECLARED_COUNT 48  /* u16         the declared number */
-#define LUMEVIQO_PARSE_SLOTS 50           /* 384 x u16   deleted ones are 0 */
+#define LUMEVIQO_PARSE_FOUND 40           /* flag         there is a directory; if not, the next fields up to the warnings are 0 */
+#define LUMEVIQO_PARSE_START 41           /* u16          where its array starts */
+#define LUMEVIQO_PARSE_END 43             /* u16          where its array ends */
+#define LUMEVIQO_PARSE_SLOT_COUNT 45      /* u16          how many slots it has, 0 to 1,024 */
+#define LUMEVIQO_PARSE_DECLARED 47        /* flag         a prelude declared their number */
+#define LUMEVIQO_PARSE_DECLARED_COUNT 48  /* u16          the declared number */
+#define LUMEVIQO_PARSE_SLOTS 50           /* 1,024 x u16  deleted ones are 0 */
 #define LUMEVIQO_PARSE_WARNING_COUNT (LUMEVIQO_PARSE_SLOTS + LUMEVIQO_MOST_SLOTS * LUMEVIQO_SLOT_LENGTH) /* u16: how many follow, 0 to 3 */
 #define LUMEVIQO_PARSE_WARNINGS (LUMEVIQO_PARSE_WARNING_COUNT + 2) /* 3 x warning */
 #define LUMEVIQO_PARSE_LENGTH (LUMEVIQO_PARSE_WARNINGS + LUMEVIQO_MOST_PARSE_WARNINGS * LUMEVIQO_WARNING_LENGTH)
 
 /* Row count. */
-#define LUMEVIQO_ROW_COUNT_ROWS 40 /* u16  how many rows, 0 to 384 */
+#define LUMEVIQO_ROW_COUNT_ROWS 40 /* u16  how many rows, 0 to 1,024 */
 #define LUMEVIQO_ROW_COUNT_LENGTH 42
 
 /* Row. */
@@ -159,8 +159,8 @@ extern "C" {
 #define LUMEVIQO_ROW_LENGTH 44
 
 /* Rows. A row ends where the next one starts, the last at LUMEVIQO_SHIFTED_LENGTH. */
-#define LUMEVIQO_ROWS_COUNT 40  /* u16        how many rows, 0 to 384 */
-#define LUMEVIQO_ROWS_STARTS 42 /* 384 x u16  offset of each row's first byte, ascending, then zeros */
+#define LUMEVIQO_ROWS_COUNT 40  /* u16          how many rows, 0 to 1,024 */
+#define LUMEVIQO_ROWS_STARTS 42 /* 1,024 x u16  offset of each row's first byte, ascending, then zeros */
 #define LUMEVIQO_ROWS_LENGTH (LUMEVIQO_ROWS_STARTS + LUMEVIQO_MOST_SLOTS * LUMEVIQO_SLOT_LENGTH)
 
 /* Leniency: any sum of these. Other bits mean nothing. */
@@ -171,6 +171,13 @@ extern "C" {
 
 /* T: from which row count on the row-count test counts. Any value 0 to 255; this is the original's. */
 #define LUMEVIQO_MIN_TRAILER_COUNT 4
+
+/* The search limit: so many of the page's first bytes are searched for slots that no prelude declares, and for the first byte of a
+   prelude's count; declared slots may run past it. The first is the original's. Any from the second to the third is taken, and another is
+   refused with 20: after wrong lengths, before all else, on an unallocated page too. */
+#define LUMEVIQO_SEARCH_LIMIT 768
+#define LUMEVIQO_LEAST_SEARCH_LIMIT 8 /* four slots take so many */
+#define LUMEVIQO_GREATEST_SEARCH_LIMIT 2048
 
 /* Answers, and their values. */
 #define LUMEVIQO_ACCEPTED 0
@@ -190,6 +197,7 @@ extern "C" {
 #define LUMEVIQO_BAD_REPLACEMENT 14 /* sector */
 #define LUMEVIQO_TOO_MANY_CANDIDATES 15 /* page */
 #define LUMEVIQO_NO_SUCH_ROW 16 /* row number */
+#define LUMEVIQO_LIMIT_OUT_OF_RANGE 20 /* search limit */
 
 /* Why there is no slot directory. */
 #define LUMEVIQO_REASON_COUNT_BELOW_FOUR 1 /* a row count below 4 confirms none */
@@ -269,46 +277,47 @@ size_t lumeviqo_replace(uint64_t number, uint8_t *stored, size_t stored_length, 
                         uint8_t *answer, size_t answer_length);
 
 /* Decodes a stored page: the plain page is written to `out`. `anchors` holds the values of bv of other pages of its block, in any
-   order. Refuses: 1 to 7, 15. Layout Decoding. */
+   order. Refuses: 1 to 7, 15, 20. Layout Decoding. */
 size_t lumeviqo_decode(uint64_t number, const uint8_t *stored, size_t stored_length, const uint8_t *anchors, size_t anchors_length,
-                       uint8_t leniency, uint8_t min_trailer_count, uint8_t *out, size_t out_length, uint8_t *answer,
-                       size_t answer_length);
+                       uint8_t leniency, uint8_t min_trailer_count, size_t search_limit, uint8_t *out, size_t out_length,
+                       uint8_t *answer, size_t answer_length);
 
-/* The same from a summary: the fits and shifted bytes of lumeviqo_scan or lumeviqo_replace. Refuses: 1 to 7, 15. Layout Decoding. */
+/* The same from a summary: the fits and shifted bytes of lumeviqo_scan or lumeviqo_replace. Refuses: 1 to 7, 15, 20. Layout Decoding. */
 size_t lumeviqo_decode_summary(uint64_t number, const uint8_t *stored, size_t stored_length, const uint8_t *fits, size_t fits_length,
                                const uint8_t *shifted, size_t shifted_length, const uint8_t *anchors, size_t anchors_length,
-                               uint8_t leniency, uint8_t min_trailer_count, uint8_t *out, size_t out_length, uint8_t *answer,
-                               size_t answer_length);
+                               uint8_t leniency, uint8_t min_trailer_count, size_t search_limit, uint8_t *out, size_t out_length,
+                               uint8_t *answer, size_t answer_length);
 
-/* Decodes a stored page with a given bv, and no integrity check. Refuses: 1, 2, 6, 7. Layout Decoding. */
+/* Decodes a stored page with a given bv, and no integrity check. Refuses: 1, 2, 6, 7, 20. Layout Decoding. */
 size_t lumeviqo_decode_supplied(uint64_t number, const uint8_t *stored, size_t stored_length, uint8_t bv, uint8_t leniency,
-                                uint8_t min_trailer_count, uint8_t *out, size_t out_length, uint8_t *answer, size_t answer_length);
+                                uint8_t min_trailer_count, size_t search_limit, uint8_t *out, size_t out_length, uint8_t *answer,
+                                size_t answer_length);
 
-/* The same from a summary. Refuses: 1, 2, 6, 7. Layout Decoding. */
+/* The same from a summary. Refuses: 1, 2, 6, 7, 20. Layout Decoding. */
 size_t lumeviqo_decode_supplied_summary(uint64_t number, const uint8_t *stored, size_t stored_length, const uint8_t *fits,
                                         size_t fits_length, const uint8_t *shifted, size_t shifted_length, uint8_t bv,
-                                        uint8_t leniency, uint8_t min_trailer_count, uint8_t *out, size_t out_length,
-                                        uint8_t *answer, size_t answer_length);
+                                        uint8_t leniency, uint8_t min_trailer_count, size_t search_limit, uint8_t *out,
+                                        size_t out_length, uint8_t *answer, size_t answer_length);
 
 /* Slots and rows. Each of the four functions looks for the slot directory anew, and reads it where it stands in `plain`: nothing is copied
    or sorted in between. On the pages of compare/stack/run none of them took more than 1,100 bytes of stack; that is measured, not proved.
    To see all rows, ask lumeviqo_rows once, not lumeviqo_row for each. */
 
-/* The slot directory of a plain page. Refuses: 1, 8 to 12. Layout Parse. */
-size_t lumeviqo_parse(uint64_t number, const uint8_t *plain, size_t plain_length, uint8_t leniency, uint8_t *answer,
-                      size_t answer_length);
+/* The slot directory of a plain page. Refuses: 1, 8 to 12, 20. Layout Parse. */
+size_t lumeviqo_parse(uint64_t number, const uint8_t *plain, size_t plain_length, uint8_t leniency, size_t search_limit,
+                      uint8_t *answer, size_t answer_length);
 
-/* How many rows a plain page has. Refuses: 1, 8 to 12. Layout Row count. */
-size_t lumeviqo_row_count(uint64_t number, const uint8_t *plain, size_t plain_length, uint8_t leniency, uint8_t *answer,
-                          size_t answer_length);
+/* How many rows a plain page has. Refuses: 1, 8 to 12, 20. Layout Row count. */
+size_t lumeviqo_row_count(uint64_t number, const uint8_t *plain, size_t plain_length, uint8_t leniency, size_t search_limit,
+                          uint8_t *answer, size_t answer_length);
 
-/* Where row `row` of a plain page lies; rows ascend by offset, and the first is row 0. Refuses: 1, 8 to 12, 16. Layout Row. */
-size_t lumeviqo_row(uint64_t number, const uint8_t *plain, size_t plain_length, uint8_t leniency, size_t row, uint8_t *answer,
-                    size_t answer_length);
+/* Where row `row` of a plain page lies; rows ascend by offset, and the first is row 0. Refuses: 1, 8 to 12, 16, 20. Layout Row. */
+size_t lumeviqo_row(uint64_t number, const uint8_t *plain, size_t plain_length, uint8_t leniency, size_t search_limit, size_t row,
+                    uint8_t *answer, size_t answer_length);
 
-/* Where all rows of a plain page lie, in one pass from the directory's far end. Refuses: 1, 8 to 12. Layout Rows. */
-size_t lumeviqo_rows(uint64_t number, const uint8_t *plain, size_t plain_length, uint8_t leniency, uint8_t *answer,
-                     size_t answer_length);
+/* Where all rows of a plain page lie, in one pass from the directory's far end. Refuses: 1, 8 to 12, 20. Layout Rows. */
+size_t lumeviqo_rows(uint64_t number, const uint8_t *plain, size_t plain_length, uint8_t leniency, size_t search_limit,
+                     uint8_t *answer, size_t answer_length);
 
 #ifdef __cplusplus
 }

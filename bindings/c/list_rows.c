@@ -1,4 +1,4 @@
-/* Lists the rows of every page of a page file: list_rows FILE [LENIENCY].
+/* Lists the rows of every page of a page file: list_rows FILE [LENIENCY [LIMIT]].
    cc -Wall -Wextra -Werror -I include bindings/c/list_rows.c target/staticlib/liblumeviqo.a -o list_rows */
 #include <inttypes.h>
 #include <stdio.h>
@@ -26,14 +26,15 @@ static uint64_t start_of(const uint8_t *found, size_t row, size_t rows) {
     return row < rows ? number_at(at, LUMEVIQO_SLOT_LENGTH) : LUMEVIQO_SHIFTED_LENGTH;
 }
 
-static void list(uint64_t number, const uint8_t *stored, size_t length, uint8_t leniency) {
+static void list(uint64_t number, const uint8_t *stored, size_t length, uint8_t leniency, size_t limit) {
     uint8_t plain[LUMEVIQO_PAGE_LENGTH], decoding[LUMEVIQO_DECODING_LENGTH], found[LUMEVIQO_ROWS_LENGTH];
-    lumeviqo_decode(number, stored, length, stored, 0, leniency, LUMEVIQO_MIN_TRAILER_COUNT, plain, sizeof plain, decoding, sizeof decoding);
+    lumeviqo_decode(number, stored, length, stored, 0, leniency, LUMEVIQO_MIN_TRAILER_COUNT, limit, plain, sizeof plain, decoding,
+                    sizeof decoding);
     if (decoding[LUMEVIQO_ANSWER_NUMBER] != LUMEVIQO_ACCEPTED) {
         print_refusal(number, decoding);
         return;
     }
-    lumeviqo_rows(number, plain, sizeof plain, leniency, found, sizeof found);
+    lumeviqo_rows(number, plain, sizeof plain, leniency, limit, found, sizeof found);
     if (found[LUMEVIQO_ANSWER_NUMBER] != LUMEVIQO_ACCEPTED) {
         print_refusal(number, found);
         return;
@@ -47,7 +48,7 @@ static void list(uint64_t number, const uint8_t *stored, size_t length, uint8_t 
 
 int main(int argc, char **argv) {
     if (argc < 2) {
-        fprintf(stderr, "usage: list_rows FILE [LENIENCY]\n");
+        fprintf(stderr, "usage: list_rows FILE [LENIENCY [LIMIT]]\n");
         return EXIT_FAILURE;
     }
     if (lumeviqo_version() != LUMEVIQO_VERSION) {
@@ -55,6 +56,7 @@ int main(int argc, char **argv) {
         return EXIT_FAILURE;
     }
     uint8_t leniency = argc > 2 ? (uint8_t)atoi(argv[2]) : LUMEVIQO_STRICT;
+    size_t limit = argc > 3 ? strtoull(argv[3], NULL, 10) : LUMEVIQO_SEARCH_LIMIT;
     FILE *file = fopen(argv[1], "rb");
     if (file == NULL) {
         perror(argv[1]);
@@ -63,7 +65,7 @@ int main(int argc, char **argv) {
     uint8_t stored[LUMEVIQO_PAGE_LENGTH];
     size_t length;
     for (uint64_t number = 0; (length = fread(stored, 1, sizeof stored, file)) > 0; number++)
-        list(number, stored, length, leniency);
+        list(number, stored, length, leniency, limit);
     fclose(file);
     return EXIT_SUCCESS;
 }

@@ -1,7 +1,7 @@
 #!/usr/bin/env python3
 """Writes `stdin` and `stdout` of `report`, `report_empty` and `report_blocks`: lines for the program, and what document 01 answers to them.
 
-The answers come from the model below, which follows document 01 sentence by sentence and shares nothing with the crates. It is slow and plain:
+The answers come from the model below, which follows document 01 sentence by sentence, with document 02's #106 and #109, and shares nothing with the crates. It is slow and plain:
 256 histograms for each sector. CRC-32 is zlib's.
 """
 import os
@@ -46,14 +46,14 @@ def pair(data, at):
     return data[at] | data[at + 1] << 8
 
 
-def directory(data):
+def directory(data, limit):
     best = None
-    for start in range(0x300):
+    for start in range(limit):
         pos = start
-        if pos + 3 < 0x300 and pair(data, pos) == 0 and 0x20 <= pair(data, pos + 2) < 0xFF0:
+        if pos + 3 < limit and pair(data, pos) == 0 and 0x20 <= pair(data, pos + 2) < 0xFF0:
             pos += 2
         array, slots, last = pos, [], 0xFF0
-        while pos + 1 < 0x300:
+        while pos + 1 < limit:
             v = pair(data, pos)
             if 0x20 <= v < 0xFF0 and v < last:
                 last = v
@@ -69,8 +69,8 @@ def directory(data):
     return best
 
 
-def row_count_matches(data, count, t):
-    found = directory(data)
+def row_count_matches(data, count, t, limit):
+    found = directory(data, limit)
     if found is None or count < t:
         return False
     return any(found[2] >= back + 2 and data[found[2] - back] == count and data[found[2] - back + 1] == 0 for back in (6, 4))
@@ -89,12 +89,12 @@ def assess(shifted):
 
 
 # an answer, or what was chosen with the number of warnings
-def choose(shifted, anchors, count, t, lenient):
+def choose(shifted, anchors, count, t, limit, lenient):
     values = [v for part in shifted for v in part]
     counts, votes, top, candidates = assess(shifted)
     if len(candidates) > 8:
         return 15
-    verified = {v for v in candidates if count != 0 and row_count_matches([(x - v) % 256 for x in values], count, t)}
+    verified = {v for v in candidates if count != 0 and row_count_matches([(x - v) % 256 for x in values], count, t, limit)}
     anchored = {v for v in candidates if v in anchors}
 
     def ambiguous(group):
@@ -119,7 +119,9 @@ def choose(shifted, anchors, count, t, lenient):
 
 
 # "Decoding order": a refusal's number, or source, confidence, bv, fits, warnings
-def decode(page, stored, anchors, options, t):
+def decode(page, stored, anchors, options, t, limit):
+    if not 8 <= limit <= 2048:
+        return 20
     if not any(stored):
         return 6, 1, 0, [(0, 0, 0, True, 0)] * 8, 0
     warnings = 0
@@ -131,7 +133,7 @@ def decode(page, stored, anchors, options, t):
             return 3 if bad_crc else 4
         warnings += 1
     fits, shifted = scan(page, stored)
-    chosen = choose(shifted, anchors, trailer[0], t, options & KEYSTREAM)
+    chosen = choose(shifted, anchors, trailer[0], t, limit, options & KEYSTREAM)
     if isinstance(chosen, int):
         return chosen
     weak = [f for f in fits if not (f[3] or f[1] >= 24 and f[1] >= f[2] + 12)]
@@ -142,14 +144,15 @@ def decode(page, stored, anchors, options, t):
 
 # "The program"
 def report(line):
-    if len(line) < 22 or any(c not in b"0123456789abcdefABCDEF" for c in line):
+    if len(line) < 26 or any(c not in b"0123456789abcdefABCDEF" for c in line):
         return "11"
-    n = int(line[20:22], 16)
-    if len(line) != 2 * (11 + n + PAGE):
+    n = int(line[24:26], 16)
+    if len(line) != 2 * (13 + n + PAGE):
         return "11"
     frame = bytes.fromhex(line.decode())
     page = int.from_bytes(frame[:8], "big")
-    answer = decode(page, frame[11 + n:], frame[11:11 + n], frame[8], frame[9])
+    limit = int.from_bytes(frame[10:12], "big")
+    answer = decode(page, frame[13 + n:], frame[13:13 + n], frame[8], frame[9], limit)
     if isinstance(answer, int):
         return f"{answer:02x}{page:016x}"
     source, confidence, bv, fits, warnings = answer
@@ -167,15 +170,16 @@ def hidden(page, plain, bv, steps):
     return [(plain[i] + offset(page, i // 512) + i % 512 * steps[i // 512] + bv) % 256 for i in range(DATA)]
 
 
-def frame(page, stored, options=0, t=4, anchors=b""):
-    return (page.to_bytes(8, "big") + bytes([options, t, len(anchors)]) + bytes(anchors) + bytes(stored)).hex().encode()
+def frame(page, stored, options=0, t=4, anchors=b"", limit=768):
+    head = page.to_bytes(8, "big") + bytes([options, t]) + limit.to_bytes(2, "big") + bytes([len(anchors)])
+    return (head + bytes(anchors) + bytes(stored)).hex().encode()
 
 
-def rows(count=5):
+def rows(count=5, at=0x40):
     plain = [0] * DATA
-    plain[0x40:0x42] = count, 0
+    plain[at:at + 2] = count, 0
     for i, v in enumerate((0xF00, 0xE00, 0xD00, 0xC80, 0xC00)):
-        plain[0x44 + 2 * i:0x46 + 2 * i] = v & 255, v >> 8
+        plain[at + 4 + 2 * i:at + 6 + 2 * i] = v & 255, v >> 8
     return plain
 
 
@@ -216,19 +220,27 @@ def lines():
     yield example[:-2]                                                   # a byte short
     yield example + b"0"
     yield example + b"00"                                                # an anchor that n does not count
-    yield example[:21] + b"1" + example[22:]                             # an anchor counted that is not there
+    yield example[:25] + b"1" + example[26:]                             # an anchor counted that is not there
     yield example[:100] + b"g" + example[101:]                           # no digit
     yield example[:100] + b"\x00" + example[101:]
     yield example[:-1] + b"\xff"
     yield example + b"\r"
     yield b" " + example
     yield b"0x" + example
-    yield example[:20] + b"ff" + b"0" * (8725 - 22)                      # one character more than the longest frame
+    yield example[:24] + b"ff" + b"0" * (8729 - 26)                      # one character more than the longest frame
     yield b"0" * 70000                                                   # more than a block
     yield frame(123456789, bytes(PAGE), 0, 4, bytes(255))                # the longest frame
     yield frame(9, sealed(ties), KEYSTREAM)                              # steps that tie
     yield frame(last, sealed(hidden(last, ties, 0x33, steps)), KEYSTREAM)                      # 255 and 0 tie in sector 3
     yield frame(last, sealed(hidden(last, ties, 0x33, steps)))           # strictly sector 0 is in doubt
+    past = sealed(hidden(9, rows(5, 0x300), 0xC3, steps), (5, 0, 0x45, 0) + 8 * (0,))          # slots from 0x304 to 0x30E
+    for limit in (768, 0x30B, 0x30C, 2048):                              # four live slots are enough: they end at 0x30C
+        yield frame(9, past, 0, 4, b"", limit)
+    yield frame(9, past, 0, 4, b"", 8)                                   # the least limit: nothing is found in eight bytes
+    yield frame(9, past, 0, 4, b"", 2049)                                # no limit: 20, before a right page, zeros, a bad CRC
+    yield frame(5, bytes(PAGE), 0, 4, b"", 7)
+    yield frame(8, sealed(hidden(8, zero, 1, steps))[:-1] + b"\x00", INTEGRITY, 4, bytes(255), 0xFFFF)
+    yield frame(last, bytes(PAGE), 0, 4, b"", 0)
     yield frame(2, sealed(hidden(2, zero, 0xFF, steps))).upper()         # and a last line with no newline
 
 

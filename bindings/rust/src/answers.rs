@@ -1,7 +1,9 @@
 //! What the reader answers. The numbers behind these are in include/lumeviqo.h.
 use std::fmt;
 
-use crate::header::{LAST_SECTOR_LENGTH, PAGE_LENGTH, SECTOR_COUNT, SECTOR_LENGTH, SHIFTED_LENGTH};
+use crate::header::{
+    GREATEST_SEARCH_LIMIT, LAST_SECTOR_LENGTH, LEAST_SEARCH_LIMIT, PAGE_LENGTH, SEARCH_LIMIT, SECTOR_COUNT, SECTOR_LENGTH, SHIFTED_LENGTH,
+};
 
 /// Values of bv, ascending.
 pub type AmbiguousCandidates = Vec<u8>;
@@ -115,6 +117,7 @@ pub enum Refusal {
     BadReplacement { sector: usize },
     TooManyCandidates { page: u64 },
     NoSuchRow(usize),
+    LimitOutOfRange(usize),
 }
 
 /// What was wrong, and what may help.
@@ -164,6 +167,11 @@ impl fmt::Display for Refusal {
             }
             Refusal::TooManyCandidates { page } => write!(f, "page {page}: more than eight values of bv to choose from"),
             Refusal::NoSuchRow(row) => write!(f, "there is no row {row}: rows are counted from 0"),
+            Refusal::LimitOutOfRange(limit) => write!(
+                f,
+                "a search limit is {LEAST_SEARCH_LIMIT} to {GREATEST_SEARCH_LIMIT}, and {limit} was asked for: take the usual {SEARCH_LIMIT}, \
+                 or a greater one where a directory lies further on"
+            ),
         }
     }
 }

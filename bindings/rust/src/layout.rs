@@ -126,6 +126,7 @@ impl Layout<'_> {
             h::BAD_REPLACEMENT => Refusal::BadReplacement { sector: v[0] as usize },
             h::TOO_MANY_CANDIDATES => Refusal::TooManyCandidates { page: v[0] },
             h::NO_SUCH_ROW => Refusal::NoSuchRow(v[0] as usize),
+            h::LIMIT_OUT_OF_RANGE => Refusal::LimitOutOfRange(v[0] as usize),
             n => unreachable!("no answer has the number {n}"),
         })
     }

@@ -8,7 +8,7 @@
 //! let mut plain = [0; lumeviqo::PAGE];
 //! let decoding = lumeviqo::decode(7, &stored, &[], lumeviqo::Options::default(), &mut plain)?;
 //! println!("{:?}", decoding.confidence);
-//! for row in lumeviqo::rows(7, &plain, lumeviqo::Leniency::STRICT)? {
+//! for row in lumeviqo::rows(7, &plain, lumeviqo::Options::default())? {
 //!     println!("{:04x}: {} bytes", row.offset, row.bytes.len());
 //! }
 //! # Ok::<(), lumeviqo::Refusal>(())
@@ -58,13 +58,15 @@ impl std::ops::BitOr for Leniency {
 #[derive(Debug, Clone, Copy, PartialEq, Eq)]
 pub struct Options {
     pub leniency: Leniency,
-    /// From which row count on the row-count test counts.
+    /// From which row count on the row-count test counts. It plays no part in a parse and its rows.
     pub min_trailer_count: u8,
+    /// How many of a page's first bytes are searched for slots that no prelude declares, and for the count of a prelude: 8 to 2,048.
+    pub search_limit: usize,
 }
 
 impl Default for Options {
     fn default() -> Self {
-        Options { leniency: Leniency::STRICT, min_trailer_count: header::MIN_TRAILER_COUNT as u8 }
+        Options { leniency: Leniency::STRICT, min_trailer_count: header::MIN_TRAILER_COUNT as u8, search_limit: header::SEARCH_LIMIT }
     }
 }
 
@@ -141,6 +143,7 @@ pub fn decode(number: u64, stored: &[u8], anchors: &[u8], options: Options, out:
             anchors.len(),
             options.leniency.0,
             options.min_trailer_count,
+            options.search_limit,
             out.as_mut_ptr(),
             out.len(),
             a,
@@ -174,6 +177,7 @@ pub fn decode_summary(
             anchors.len(),
             options.leniency.0,
             options.min_trailer_count,
+            options.search_limit,
             out.as_mut_ptr(),
             out.len(),
             a,
@@ -193,6 +197,7 @@ pub fn decode_supplied(number: u64, stored: &[u8], bv: u8, options: Options, out
             bv,
             options.leniency.0,
             options.min_trailer_count,
+            options.search_limit,
             out.as_mut_ptr(),
             out.len(),
             a,
@@ -225,6 +230,7 @@ pub fn decode_supplied_summary(
             bv,
             options.leniency.0,
             options.min_trailer_count,
+            options.search_limit,
             out.as_mut_ptr(),
             out.len(),
             a,
@@ -235,32 +241,35 @@ pub fn decode_supplied_summary(
 }
 
 /// The slot directory of a plain page.
-pub fn parse(number: u64, plain: &[u8], leniency: Leniency) -> Result<Parsed, Refusal> {
-    let answer =
-        asked::<{ header::PARSE_LENGTH }>(|a, n| unsafe { sys::lumeviqo_parse(number, plain.as_ptr(), plain.len(), leniency.0, a, n) });
+pub fn parse(number: u64, plain: &[u8], options: Options) -> Result<Parsed, Refusal> {
+    let answer = asked::<{ header::PARSE_LENGTH }>(|a, n| unsafe {
+        sys::lumeviqo_parse(number, plain.as_ptr(), plain.len(), options.leniency.0, options.search_limit, a, n)
+    });
     layout::parsed(&answer)
 }
 
 /// How many rows a plain page has.
-pub fn row_count(number: u64, plain: &[u8], leniency: Leniency) -> Result<usize, Refusal> {
+pub fn row_count(number: u64, plain: &[u8], options: Options) -> Result<usize, Refusal> {
     let answer = asked::<{ header::ROW_COUNT_LENGTH }>(|a, n| unsafe {
-        sys::lumeviqo_row_count(number, plain.as_ptr(), plain.len(), leniency.0, a, n)
+        sys::lumeviqo_row_count(number, plain.as_ptr(), plain.len(), options.leniency.0, options.search_limit, a, n)
     });
     layout::row_count(&answer)
 }
 
 /// A row of a plain page. Rows ascend by offset, and the first is row 0.
-pub fn row(number: u64, plain: &[u8], leniency: Leniency, row: usize) -> Result<Row<'_>, Refusal> {
-    let answer =
-        asked::<{ header::ROW_LENGTH }>(|a, n| unsafe { sys::lumeviqo_row(number, plain.as_ptr(), plain.len(), leniency.0, row, a, n) });
+pub fn row(number: u64, plain: &[u8], options: Options, row: usize) -> Result<Row<'_>, Refusal> {
+    let answer = asked::<{ header::ROW_LENGTH }>(|a, n| unsafe {
+        sys::lumeviqo_row(number, plain.as_ptr(), plain.len(), options.leniency.0, options.search_limit, row, a, n)
+    });
     let (offset, end) = layout::row(&answer)?;
     Ok(row_from(plain, offset, end))
 }
 
 /// All rows of a plain page, found in one pass.
-pub fn rows(number: u64, plain: &[u8], leniency: Leniency) -> Result<Vec<Row<'_>>, Refusal> {
-    let answer =
-        asked::<{ header::ROWS_LENGTH }>(|a, n| unsafe { sys::lumeviqo_rows(number, plain.as_ptr(), plain.len(), leniency.0, a, n) });
+pub fn rows(number: u64, plain: &[u8], options: Options) -> Result<Vec<Row<'_>>, Refusal> {
+    let answer = asked::<{ header::ROWS_LENGTH }>(|a, n| unsafe {
+        sys::lumeviqo_rows(number, plain.as_ptr(), plain.len(), options.leniency.0, options.search_limit, a, n)
+    });
     Ok(layout::row_bounds(&answer)?.windows(2).map(|w| row_from(plain, w[0], w[1])).collect())
 }
 

@@ -46,6 +46,7 @@ unsafe extern "C" {
         anchors_length: usize,
         leniency: u8,
         min_trailer_count: u8,
+        search_limit: usize,
         out: *mut u8,
         out_length: usize,
         answer: *mut u8,
@@ -64,6 +65,7 @@ unsafe extern "C" {
         anchors_length: usize,
         leniency: u8,
         min_trailer_count: u8,
+        search_limit: usize,
         out: *mut u8,
         out_length: usize,
         answer: *mut u8,
@@ -77,6 +79,7 @@ unsafe extern "C" {
         bv: u8,
         leniency: u8,
         min_trailer_count: u8,
+        search_limit: usize,
         out: *mut u8,
         out_length: usize,
         answer: *mut u8,
@@ -94,20 +97,29 @@ unsafe extern "C" {
         bv: u8,
         leniency: u8,
         min_trailer_count: u8,
+        search_limit: usize,
         out: *mut u8,
         out_length: usize,
         answer: *mut u8,
         answer_length: usize,
     ) -> usize;
 
-    pub fn lumeviqo_parse(number: u64, plain: *const u8, plain_length: usize, leniency: u8, answer: *mut u8, answer_length: usize)
-    -> usize;
+    pub fn lumeviqo_parse(
+        number: u64,
+        plain: *const u8,
+        plain_length: usize,
+        leniency: u8,
+        search_limit: usize,
+        answer: *mut u8,
+        answer_length: usize,
+    ) -> usize;
 
     pub fn lumeviqo_row_count(
         number: u64,
         plain: *const u8,
         plain_length: usize,
         leniency: u8,
+        search_limit: usize,
         answer: *mut u8,
         answer_length: usize,
     ) -> usize;
@@ -117,10 +129,19 @@ unsafe extern "C" {
         plain: *const u8,
         plain_length: usize,
         leniency: u8,
+        search_limit: usize,
         row: usize,
         answer: *mut u8,
         answer_length: usize,
     ) -> usize;
 
-    pub fn lumeviqo_rows(number: u64, plain: *const u8, plain_length: usize, leniency: u8, answer: *mut u8, answer_length: usize) -> usize;
+    pub fn lumeviqo_rows(
+        number: u64,
+        plain: *const u8,
+        plain_length: usize,
+        leniency: u8,
+        search_limit: usize,
+        answer: *mut u8,
+        answer_length: usize,
+    ) -> usize;
 }

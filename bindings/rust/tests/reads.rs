@@ -1,4 +1,4 @@
-//! The crate over the library: pages of document 01, ties, lengths, and refusals that leave buffers alone.
+//! The crate over the library: pages of document 01, ties, lengths, search limits, and refusals that leave buffers alone.
 use lumeviqo::*;
 
 /// Page 1, zero data, type 0x45, with its CRC.
@@ -10,6 +10,9 @@ fn zero_data() -> [u8; PAGE] {
     page
 }
 
+/// A directory that no prelude confirms is taken.
+const LENIENT: Options = Options { leniency: Leniency::DIRECTORY, min_trailer_count: 4, search_limit: 768 };
+
 /// Each fit in the decoding of an unallocated page.
 const UNALLOCATED: Fit = Fit { step: 0, peak: 0, runner_up: 0, exact: true, tied: 0 };
 
@@ -18,10 +21,14 @@ fn slotted() -> [u8; PAGE] {
     let mut plain = [0; PAGE];
     plain[0x40] = 5;
     plain[0xFF0] = 5;
-    for (k, slot) in [0x0F00u16, 0x0E00, 0x0D00, 0, 0x0C00].into_iter().enumerate() {
-        plain[0x44 + 2 * k..][..2].copy_from_slice(&slot.to_le_bytes());
-    }
+    put_slots(&mut plain, 0x44, &[0x0F00, 0x0E00, 0x0D00, 0, 0x0C00]);
     plain
+}
+
+fn put_slots(plain: &mut [u8], at: usize, slots: &[u16]) {
+    for (place, slot) in plain[at..].chunks_exact_mut(2).zip(slots) {
+        place.copy_from_slice(&slot.to_le_bytes());
+    }
 }
 
 /// Bytes i(i + 1)/2 of a sector: under no step do more than two agree, and under each two do.
@@ -107,8 +114,9 @@ fn fits_of_another_length_are_no_fits() {
         let (mut out, mut answer) = ([7; PAGE], [7; header::DECODING_LENGTH]);
         let (o, a) = (out.as_mut_ptr(), answer.as_mut_ptr());
         let (p, f, m) = (page.as_ptr(), fits.as_ptr(), shifted.as_ptr());
-        let written =
-            unsafe { sys::lumeviqo_decode_summary(1, p, PAGE, f, length, m, SHIFTED, p, 0, 1, 4, o, PAGE, a, header::DECODING_LENGTH) };
+        let written = unsafe {
+            sys::lumeviqo_decode_summary(1, p, PAGE, f, length, m, SHIFTED, p, 0, 1, 4, 768, o, PAGE, a, header::DECODING_LENGTH)
+        };
         assert_eq!((written, out, answer), (0, [7; PAGE], [7; header::DECODING_LENGTH]));
     }
 }
@@ -116,26 +124,91 @@ fn fits_of_another_length_are_no_fits() {
 #[test]
 fn rows_of_a_directory() {
     let plain = slotted();
-    let parsed = parse(3, &plain, Leniency::STRICT).unwrap();
+    let parsed = parse(3, &plain, Options::default()).unwrap();
     let directory = parsed.directory.unwrap();
     assert_eq!((directory.start, directory.end, directory.declared), (0x44, 0x4E, Some(5)));
     assert_eq!(directory.slots, [0x0F00, 0x0E00, 0x0D00, 0, 0x0C00]);
-    let lengths: Vec<usize> = rows(3, &plain, Leniency::STRICT).unwrap().iter().map(|r| r.bytes.len()).collect();
+    let lengths: Vec<usize> = rows(3, &plain, Options::default()).unwrap().iter().map(|r| r.bytes.len()).collect();
     assert_eq!(lengths, [256, 256, 256, 240]);
-    assert_eq!(row(3, &plain, Leniency::STRICT, 4).unwrap_err(), Refusal::NoSuchRow(4));
+    assert_eq!(row(3, &plain, Options::default(), 4).unwrap_err(), Refusal::NoSuchRow(4));
 }
 
 #[test]
 fn all_rows_are_those_asked_for_one_by_one() {
     let mut plain = slotted();
     plain[0x4C..0x4E].copy_from_slice(&[0x46, 0]); // the last slot points into the directory
-    for leniency in [Leniency::STRICT, Leniency::DIRECTORY] {
-        let one_by_one = row_count(3, &plain, leniency).and_then(|n| (0..n).map(|r| row(3, &plain, leniency, r)).collect());
-        assert_eq!(rows(3, &plain, leniency), one_by_one);
+    let strict = Options::default();
+    for options in [strict, LENIENT] {
+        let one_by_one = row_count(3, &plain, options).and_then(|n| (0..n).map(|r| row(3, &plain, options, r)).collect());
+        assert_eq!(rows(3, &plain, options), one_by_one);
     }
-    assert_eq!(rows(3, &plain, Leniency::STRICT).unwrap_err(), Refusal::SlotOffsetInDirectory { page: 3, offset: 0x46, end: 0x4E });
-    assert_eq!(rows(3, &plain, Leniency::DIRECTORY).unwrap().len(), 3);
-    assert_eq!(rows(3, &[0; PAGE], Leniency::STRICT).unwrap(), []);
+    assert_eq!(rows(3, &plain, strict).unwrap_err(), Refusal::SlotOffsetInDirectory { page: 3, offset: 0x46, end: 0x4E });
+    assert_eq!(rows(3, &plain, LENIENT).unwrap().len(), 3);
+    assert_eq!(rows(3, &[0; PAGE], strict).unwrap(), []);
+}
+
+/// Row count 40, its prelude at 0x400, slots at 0x404: no search in the usual 768 bytes comes to it.
+#[test]
+fn a_greater_limit_finds_a_directory_past_0x300() {
+    let mut plain = [0; PAGE];
+    let slots: Vec<u16> = (0..40).map(|k| 0xF00 - 32 * k).collect();
+    plain[0x400] = 40;
+    plain[0xFF0] = 40;
+    put_slots(&mut plain, 0x404, &slots);
+    assert_eq!(parse(3, &plain, Options::default()).unwrap_err(), Refusal::UnknownPrelude { page: 3 });
+
+    // The prelude's count may stand at limit - 1, and not at the limit.
+    let at = |search_limit: usize| Options { search_limit, ..Options::default() };
+    assert_eq!(parse(3, &plain, at(0x400)).unwrap_err(), Refusal::UnknownPrelude { page: 3 });
+    for options in [at(0x401), at(2_048)] {
+        let directory = parse(3, &plain, options).unwrap().directory.unwrap();
+        assert_eq!((directory.start, directory.end, directory.declared), (0x404, 0x454, Some(40)));
+        assert_eq!(directory.slots, slots);
+        assert_eq!((row_count(3, &plain, options), rows(3, &plain, options).unwrap().len()), (Ok(40), 40));
+        assert_eq!(row(3, &plain, options, 39).unwrap().offset, 0xF00);
+    }
+}
+
+/// The most that a search of 2,048 bytes can find; one of 768 bytes finds 384 of them.
+#[test]
+fn a_directory_of_1024_slots() {
+    let mut plain = [0; PAGE];
+    let slots: Vec<u16> = (0..1_024).map(|k| 0xFEF - k).collect();
+    put_slots(&mut plain, 0, &slots);
+    let widest = Options { search_limit: 2_048, ..LENIENT };
+    let parsed = parse(3, &plain, widest).unwrap();
+    assert_eq!(parsed.warnings, [Warning { page: 3, kind: WarningKind::UnverifiedDirectory }]);
+    assert_eq!(parsed.directory, Some(Directory { start: 0, end: 2_048, slots, declared: None }));
+    let rows = rows(3, &plain, widest).unwrap();
+    assert_eq!((rows.len(), rows[0].offset, rows[1_023].bytes), (1_024, 0xBF0, &plain[0xFEF..0xFF0]));
+    assert_eq!((row_count(3, &plain, widest), row_count(3, &plain, LENIENT)), (Ok(1_024), Ok(384)));
+}
+
+/// Behind wrong lengths, before all else, and no lent byte is written.
+#[test]
+fn a_limit_out_of_range_is_refused() {
+    let (plain, mut out, mut shifted) = (slotted(), [7; PAGE], [0; SHIFTED]);
+    for limit in [0, 7, 2_049, 65_535, 1 << 32, usize::MAX] {
+        let (options, refusal) = (Options { search_limit: limit, ..Options::default() }, Refusal::LimitOutOfRange(limit));
+        for page in [zero_data(), [0; PAGE], [1; PAGE]] {
+            let fits = scan(1, &page, &mut shifted).unwrap();
+            assert_eq!(decode(1, &page, &[], options, &mut out).unwrap_err(), refusal);
+            assert_eq!(decode_summary(1, &page, &fits, &shifted, &[], options, &mut out).unwrap_err(), refusal);
+            assert_eq!(decode_supplied(1, &page, 249, options, &mut out).unwrap_err(), refusal);
+            assert_eq!(decode_supplied_summary(1, &page, &fits, &shifted, 249, options, &mut out).unwrap_err(), refusal);
+        }
+        assert_eq!(parse(3, &plain, options).unwrap_err(), refusal);
+        assert_eq!(row_count(3, &plain, options).unwrap_err(), refusal);
+        assert_eq!(row(3, &plain, options, 9).unwrap_err(), refusal);
+        assert_eq!(rows(3, &plain, options).unwrap_err(), refusal);
+        assert_eq!(rows(3, &plain[..9], options).unwrap_err(), Refusal::WrongPageLength(9));
+        assert_eq!(decode(1, &zero_data(), &[], options, &mut out[..9]).unwrap_err(), Refusal::WrongBufferLength(9));
+        assert!(refusal.to_string().contains("8 to 2048"));
+    }
+    assert_eq!(out, [7; PAGE]);
+    for limit in [8, 2_048] {
+        assert_eq!(rows(3, &[0; PAGE], Options { search_limit: limit, ..Options::default() }), Ok(Vec::new()));
+    }
 }
 
 #[test]
@@ -159,7 +232,7 @@ fn every_wrong_length_is_refused() {
         assert_eq!(trailer(&page[..n]).unwrap_err(), Refusal::WrongPageLength(n));
         assert_eq!(integrity(1, &page[..n]).unwrap_err(), Refusal::WrongPageLength(n));
         assert_eq!(superblock(&page[..n]).unwrap_err(), Refusal::WrongPageLength(n));
-        assert_eq!(parse(1, &page[..n], Leniency::STRICT).unwrap_err(), Refusal::WrongPageLength(n));
+        assert_eq!(parse(1, &page[..n], Options::default()).unwrap_err(), Refusal::WrongPageLength(n));
         assert_eq!(decode(1, &page, &[], Options::default(), &mut vec![0; n]).unwrap_err(), Refusal::WrongBufferLength(n));
         assert_eq!(scan(1, &page, &mut vec![0; n]).unwrap_err(), Refusal::WrongBufferLength(n));
     }

@@ -6,7 +6,7 @@ use lib.ListN.{getD}
 use Rattle.answers.specs.declared.kinds.Reason.{Reason}
 use Rattle.answers.specs.declared.kinds.Reason.the-variants.{CountBelowFour, FewerThanEightLive, Unconfirmed}
 use Rattle.answers.specs.declared.kinds.Answer.{Answer}
-use Rattle.answers.specs.declared.kinds.Answer.the-variants.{Accepted, WrongPageLength, WrongBufferLength, BadCrc, BadTrailer, AmbiguousCalibration, KeystreamUnverified, LowConfidenceKeystream, NoSlotDirectory, UnknownPrelude, SlotDirectoryTruncated, AmbiguousSlotDirectory, SlotOffsetInDirectory, BadMagic, BadReplacement, TooManyCandidates, NoSuchRow, MalformedLine}
+use Rattle.answers.specs.declared.kinds.Answer.the-variants.{Accepted, WrongPageLength, WrongBufferLength, BadCrc, BadTrailer, AmbiguousCalibration, KeystreamUnverified, LowConfidenceKeystream, NoSlotDirectory, UnknownPrelude, SlotDirectoryTruncated, AmbiguousSlotDirectory, SlotOffsetInDirectory, BadMagic, BadReplacement, TooManyCandidates, NoSuchRow, MalformedLine, LimitOutOfRange}
 use Rattle.answers.specs.Answers.{reasonNumber, numberOf, valuesOf}
 
 -- the way back: the reason of a number, and the answer of a number and values
@@ -36,9 +36,12 @@ answerFrom n l =
     ∷ BadReplacement (v l 0)
     ∷ TooManyCandidates (v l 0)
     ∷ NoSuchRow (v l 0)
+    ∷ MalformedLine
+    ∷ MalformedLine
+    ∷ MalformedLine
     ∷ [])
     n
-    MalformedLine
+    (LimitOutOfRange (v l 0))
 
 reason-back : (r : Reason) → reasonFrom (reasonNumber r) ≡ r
 unfolding reasonFrom
@@ -66,6 +69,7 @@ answer-back (BadReplacement sector) = refl
 answer-back (TooManyCandidates page) = refl
 answer-back (NoSuchRow row) = refl
 answer-back MalformedLine = refl
+answer-back (LimitOutOfRange limit) = refl
 
 -- answers of equal number and values are equal
 pub same-answer : (a b : Answer) → numberOf a ≡ numberOf b → valuesOf a ≡ valuesOf b → a ≡ b

@@ -1,2 +1,3 @@
--- Laws of the answers.
+-- Laws of the answers and of the options.
 pub mod Distinct
+pub mod Limits

@@ -8,7 +8,7 @@ use Rattle.lists.specs.Cases.{pick}
 use Rattle.answers.specs.declared.kinds.Reason.{Reason}
 use Rattle.answers.specs.declared.kinds.Reason.the-variants.{CountBelowFour, FewerThanEightLive, Unconfirmed}
 use Rattle.answers.specs.declared.kinds.Answer.{Answer}
-use Rattle.answers.specs.declared.kinds.Answer.the-variants.{Accepted, WrongPageLength, WrongBufferLength, BadCrc, BadTrailer, AmbiguousCalibration, KeystreamUnverified, LowConfidenceKeystream, NoSlotDirectory, UnknownPrelude, SlotDirectoryTruncated, AmbiguousSlotDirectory, SlotOffsetInDirectory, BadMagic, BadReplacement, TooManyCandidates, NoSuchRow, MalformedLine}
+use Rattle.answers.specs.declared.kinds.Answer.the-variants.{Accepted, WrongPageLength, WrongBufferLength, BadCrc, BadTrailer, AmbiguousCalibration, KeystreamUnverified, LowConfidenceKeystream, NoSlotDirectory, UnknownPrelude, SlotDirectoryTruncated, AmbiguousSlotDirectory, SlotOffsetInDirectory, BadMagic, BadReplacement, TooManyCandidates, NoSuchRow, MalformedLine, LimitOutOfRange}
 use Rattle.answers.specs.declared.kinds.Bvs.{Bvs}
 
 -- the reasons of answer 8: n from 1 to 3; fewer than 8 live; unconfirmed
@@ -37,6 +37,7 @@ numberOf (BadReplacement sector) = 14
 numberOf (TooManyCandidates page) = 15
 numberOf (NoSuchRow row) = 16
 numberOf MalformedLine = 17
+numberOf (LimitOutOfRange limit) = 20
 
 -- the column "returns". The candidates of 5 stand beside it
 abbrev pub valuesOf : Answer → List ℕ
@@ -58,6 +59,7 @@ valuesOf (BadReplacement sector) = sector ∷ []
 valuesOf (TooManyCandidates page) = page ∷ []
 valuesOf (NoSuchRow row) = row ∷ []
 valuesOf MalformedLine = []
+valuesOf (LimitOutOfRange limit) = limit ∷ []
 
 abbrev pub isAccepted : Answer → Bool
 isAccepted a = eqb (numberOf a) 0

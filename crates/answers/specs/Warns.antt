@@ -49,9 +49,9 @@ noWarnings = record { items = replicate 10 blankWarning; len = 0 }
 unfoldable pub withWarning : Warnings → ℕ → WarningKind → Warnings
 withWarning t page kind = pick (leb 10 (t .len)) t (record { items = set (t .items) (t .len) (record { page = page; kind = kind }); len = t .len + 1 })
 
--- the warnings of a parse: room for 386
+-- the warnings of a parse: room for 1026
 unfoldable pub noParseWarnings : ParseWarnings
-noParseWarnings = record { items = replicate 386 blankWarning; len = 0 }
+noParseWarnings = record { items = replicate 1026 blankWarning; len = 0 }
 
 unfoldable pub withParseWarning : ParseWarnings → ℕ → WarningKind → ParseWarnings
-withParseWarning t page kind = pick (leb 386 (t .len)) t (record { items = set (t .items) (t .len) (record { page = page; kind = kind }); len = t .len + 1 })
+withParseWarning t page kind = pick (leb 1026 (t .len)) t (record { items = set (t .items) (t .len) (record { page = page; kind = kind }); len = t .len + 1 })

@@ -67,6 +67,7 @@ pub enum Answer {
     TooManyCandidates(u64),
     NoSuchRow(usize),
     MalformedLine,
+    LimitOutOfRange(usize),
 }
 
 impl Answer {
@@ -111,6 +112,7 @@ impl Answer {
             Answer::TooManyCandidates(_) => 15,
             Answer::NoSuchRow(_) => 16,
             Answer::MalformedLine => 17,
+            Answer::LimitOutOfRange(_) => 20,
         }
     }
 
@@ -153,6 +155,7 @@ impl Answer {
             Answer::TooManyCandidates(page) => Values::one(page),
             Answer::NoSuchRow(row) => Values::one(row as u64),
             Answer::MalformedLine => Values::none(),
+            Answer::LimitOutOfRange(limit) => Values::one(limit as u64),
         }
     }
 

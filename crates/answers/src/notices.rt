@@ -125,7 +125,7 @@ impl Warnings {
 
 // The warnings of a parse.
 pub struct ParseWarnings {
-    pub items: [Warning; 386],
+    pub items: [Warning; 1026],
     pub len: usize,
 }
 
@@ -137,7 +137,7 @@ impl ParseWarnings {
             page: 0,
             kind: WarningKind::Nothing,
         };
-        let items = [blank; 386];
+        let items = [blank; 1026];
         ParseWarnings { items, len: 0 }
     }
 
@@ -146,7 +146,7 @@ impl ParseWarnings {
         ensures { λ r. ⌜ r ≡ withParseWarning self page kind ⌝ }
     {
         let at = self.len;
-        if 386 <= at {
+        if 1026 <= at {
             return self;
         }
         let mut next = self;

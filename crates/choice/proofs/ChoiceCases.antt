@@ -10,7 +10,7 @@ use Rattle.lists.specs.Bytes.{plainOf}
 use Rattle.lists.specs.Counts.{count}
 use Rattle.slots.specs.Slots.{rowCountMatches}
 use Rattle.answers.specs.Answers.{noBvs}
-use Rattle.answers.specs.Settings.{keystream}
+use Rattle.answers.specs.Settings.{keystream, limitFits}
 use Rattle.answers.specs.Trust.{noGrounds, groundIf}
 use Rattle.answers.specs.declared.kinds.Answer.the-variants as answer
 use Rattle.answers.specs.declared.trust.Source.the-variants as source
@@ -145,15 +145,25 @@ module _ (number : ℕ) (lenient : Bool) (a : Assessment) where
   unfolding chosen
   chosen-few h = rw (le-ltb 8 (a .candidates .len) h)
 
-module _ (lim number : ℕ) (xs anchors : List ℕ) (n : ℕ) (o : Options) where
-  pub choice-length : (length xs ≡ 4080 → ⊥) → choiceOf lim number xs anchors n o ≡ refusedOf (answer.WrongBufferLength (length xs)) noBvs
+module _ (number : ℕ) (xs anchors : List ℕ) (n : ℕ) (o : Options) where
+  pub choice-length : (length xs ≡ 4080 → ⊥) → choiceOf number xs anchors n o ≡ refusedOf (answer.WrongBufferLength (length xs)) noBvs
   unfolding choiceOf
   choice-length h = rw (ne-eqb (length xs) 4080 h)
 
-  pub choice-is :
-      length xs ≡ 4080 → choiceOf lim number xs anchors n o ≡ chosen number (keystream o) (assessmentOf lim xs anchors n (o .«min_trailer_count»))
+  pub choice-limit :
+      length xs ≡ 4080
+      → limitFits (o .«search_limit») ≡ false
+      → choiceOf number xs anchors n o ≡ refusedOf (answer.LimitOutOfRange (o .«search_limit»)) noBvs
   unfolding choiceOf
-  choice-is h = rw (eq-eqb (length xs) 4080 h)
+  choice-limit h f = rw (eq-eqb (length xs) 4080 h, f)
+
+  pub choice-is :
+      length xs ≡ 4080
+      → limitFits (o .«search_limit») ≡ true
+      → choiceOf number xs anchors n o
+      ≡ chosen number (keystream o) (assessmentOf (o .«search_limit») xs anchors n (o .«min_trailer_count»))
+  unfolding choiceOf
+  choice-is h f = rw (eq-eqb (length xs) 4080 h, f)
 
 -- a supplied bv
 abbrev pub suppliedGrounds : ℕ → ℕ → Bool → Grounds
@@ -191,25 +201,34 @@ module _ (number : ℕ) (lenient : Bool) (bv votes dissent : ℕ) (matches : Boo
   unfolding suppliedBy
   supplied-refused h k l = rw (k, l, h)
 
-module _ (lim number bv : ℕ) (xs : List ℕ) (n : ℕ) (o : Options) where
-  pub supplied-length : (length xs ≡ 4080 → ⊥) → suppliedOf lim number bv xs n o ≡ refusedOf (answer.WrongBufferLength (length xs)) noBvs
+module _ (number bv : ℕ) (xs : List ℕ) (n : ℕ) (o : Options) where
+  pub supplied-length : (length xs ≡ 4080 → ⊥) → suppliedOf number bv xs n o ≡ refusedOf (answer.WrongBufferLength (length xs)) noBvs
   unfolding suppliedOf
   supplied-length h = rw (ne-eqb (length xs) 4080 h)
 
+  pub supplied-limit :
+      length xs ≡ 4080
+      → limitFits (o .«search_limit») ≡ false
+      → suppliedOf number bv xs n o ≡ refusedOf (answer.LimitOutOfRange (o .«search_limit»)) noBvs
+  unfolding suppliedOf
+  supplied-limit h f = rw (eq-eqb (length xs) 4080 h, f)
+
   supplied-is :
       length xs ≡ 4080
-      → suppliedOf lim number bv xs n o
+      → limitFits (o .«search_limit») ≡ true
+      → suppliedOf number bv xs n o
       ≡ suppliedBy number (keystream o) bv (count bv (ballots xs)) (length (ballots xs) - count bv (ballots xs))
-      (rowCountMatches lim (plainOf bv xs) n (o .«min_trailer_count»))
+      (rowCountMatches (o .«search_limit») (plainOf bv xs) n (o .«min_trailer_count»))
   unfolding suppliedOf
-  supplied-is h = rw (eq-eqb (length xs) 4080 h)
+  supplied-is h f = rw (eq-eqb (length xs) 4080 h, f)
 
   pub supplied-made :
       (poll : Poll) (dissent : ℕ) (matches lenient : Bool)
       → length xs ≡ 4080
+      → limitFits (o .«search_limit») ≡ true
       → poll ≡ pollOf xs bv
       → dissent ≡ poll .total - poll .votes
-      → matches ≡ rowCountMatches lim (plainOf bv xs) n (o .«min_trailer_count»)
+      → matches ≡ rowCountMatches (o .«search_limit») (plainOf bv xs) n (o .«min_trailer_count»)
       → lenient ≡ keystream o
-      → suppliedBy number lenient bv (poll .votes) dissent matches ≡ suppliedOf lim number bv xs n o
-  supplied-made poll dissent matches lenient h ep ed em el = rw (el, em, ed, ep, poll-is xs bv h) (sym (supplied-is h))
+      → suppliedBy number lenient bv (poll .votes) dissent matches ≡ suppliedOf number bv xs n o
+  supplied-made poll dissent matches lenient h f ep ed em el = rw (el, em, ed, ep, poll-is xs bv h) (sym (supplied-is h f))

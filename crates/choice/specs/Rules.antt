@@ -6,7 +6,7 @@ use lib.Dec.{eqb, ltb, leb}
 use lib.ListN.{length}
 use Rattle.lists.specs.Cases.{pick}
 use Rattle.answers.specs.Answers.{noBvs}
-use Rattle.answers.specs.Settings.{keystream}
+use Rattle.answers.specs.Settings.{keystream, limitFits}
 use Rattle.answers.specs.Trust.{noGrounds, withGround, groundIf}
 use Rattle.answers.specs.declared.kinds.Answer.{Answer}
 use Rattle.answers.specs.declared.kinds.Answer.the-variants as answer
@@ -116,9 +116,12 @@ ruleOne number lenient a =
 unfoldable pub chosen : ℕ → Bool → Assessment → Choice
 chosen number lenient a = pick (ltb 8 (a .candidates .len)) (refusedOf (answer.TooManyCandidates number) noBvs) (ruleOne number lenient a)
 
--- the choice for the shifted bytes, of which there must be 4,080; n is the stored row count
-unfoldable pub choiceOf : ℕ → ℕ → List ℕ → List ℕ → ℕ → Options → Choice
-choiceOf lim number shifted anchors n o =
+-- the choice for the shifted bytes, of which there must be 4,080; n is the stored row count. Request #109: "20, with the limit, if it is outside
+-- the range, after the lengths"
+unfoldable pub choiceOf : ℕ → List ℕ → List ℕ → ℕ → Options → Choice
+choiceOf number shifted anchors n o =
     pick (eqb (length shifted) 4080)
-    (chosen number (keystream o) (assessmentOf lim shifted anchors n (o .«min_trailer_count»)))
+    (pick (limitFits (o .«search_limit»))
+    (chosen number (keystream o) (assessmentOf (o .«search_limit») shifted anchors n (o .«min_trailer_count»)))
+    (refusedOf (answer.LimitOutOfRange (o .«search_limit»)) noBvs))
     (refusedOf (answer.WrongBufferLength (length shifted)) noBvs)

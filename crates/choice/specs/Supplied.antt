@@ -8,7 +8,7 @@ use Rattle.lists.specs.Cases.{pick}
 use Rattle.lists.specs.Bytes.{plainOf}
 use Rattle.lists.specs.Counts.{count}
 use Rattle.answers.specs.Answers.{noBvs}
-use Rattle.answers.specs.Settings.{keystream}
+use Rattle.answers.specs.Settings.{keystream, limitFits}
 use Rattle.answers.specs.Trust.{noGrounds, groundIf}
 use Rattle.answers.specs.declared.kinds.Answer.the-variants as answer
 use Rattle.answers.specs.declared.trust.Source.the-variants as source
@@ -40,10 +40,13 @@ suppliedBy number lenient bv votes dissent matches =
     (suppliedWith bv confidence.Unverified grounds (warning.UnverifiedKeystream bv))
     (refusedOf (answer.KeystreamUnverified number bv) noBvs)))
 
--- for the shifted bytes, of which there must be 4,080
-unfoldable pub suppliedOf : ℕ → ℕ → ℕ → List ℕ → ℕ → Options → Choice
-suppliedOf lim number bv shifted n o =
+-- for the shifted bytes, of which there must be 4,080, and a search limit in its range, as in `choiceOf`
+unfoldable pub suppliedOf : ℕ → ℕ → List ℕ → ℕ → Options → Choice
+suppliedOf number bv shifted n o =
     let votes : ℕ = count bv (ballots shifted) in
+    let matches : Bool = rowCountMatches (o .«search_limit») (plainOf bv shifted) n (o .«min_trailer_count») in
     pick (eqb (length shifted) 4080)
-    (suppliedBy number (keystream o) bv votes (length (ballots shifted) - votes) (rowCountMatches lim (plainOf bv shifted) n (o .«min_trailer_count»)))
+    (pick (limitFits (o .«search_limit»))
+    (suppliedBy number (keystream o) bv votes (length (ballots shifted) - votes) matches)
+    (refusedOf (answer.LimitOutOfRange (o .«search_limit»)) noBvs))
     (refusedOf (answer.WrongBufferLength (length shifted)) noBvs)

@@ -12,7 +12,6 @@ use answers::Source;
 use answers::WarningKind;
 pub use supplied::supplied_bv;
 ghost use mathlib.Core.Path.{_≡_};
-ghost use Rattle.slots.specs.Slots.{searchLimit};
 ghost use Rattle.choice.specs.Rules.{refusedOf, choiceOf};
 
 // The choice. `group`: of answer 5 the candidates; of an ambiguous choice that was let through, those it was preferred to.
@@ -26,16 +25,20 @@ pub struct Choice {
     pub warned: WarningKind,
 }
 
-// The choice for a page's 4,080 shifted bytes, with the stored row count n.
+// The choice for a page's 4,080 shifted bytes, with the stored row count n. A search limit out of range refuses it before a byte is read.
 pub fn choose_bv(number: u64, shifted: &[u8], anchors: &[u8], n: u8, options: Options) -> Choice
-    ensures { λ r. ⌜ r ≡ choiceOf searchLimit number (now (shifted .entry)) (now (anchors .entry)) n options ⌝ }
+    ensures { λ r. ⌜ r ≡ choiceOf number (now (shifted .entry)) (now (anchors .entry)) n options ⌝ }
 {
     let none = Bvs::none();
     let length = shifted.len();
     if length != 4080 {
         return refused(Answer::WrongBufferLength(length), none);
     }
-    let a = votes::assess(shifted, anchors, n, options.min_trailer_count);
+    let limit = options.search_limit;
+    if !Options::limit_fits(limit) {
+        return refused(Answer::LimitOutOfRange(limit), none);
+    }
+    let a = votes::assess(shifted, anchors, limit, n, options.min_trailer_count);
     let found = a.candidates;
     if 8 < found.len {
         return refused(Answer::TooManyCandidates(number), none);

@@ -13,24 +13,28 @@ use answers::WarningKind;
 ghost use mathlib.Core.Path.{_≡_};
 ghost use mathlib.Core.Bool.{_&&_};
 ghost use lib.Dec.{leb, eqb};
-ghost use Rattle.slots.specs.Slots.{searchLimit};
 ghost use Rattle.choice.specs.Supplied.{suppliedWith, suppliedBy, suppliedOf};
 
-// For a page's 4,080 shifted bytes, with the stored row count n.
+// For a page's 4,080 shifted bytes, with the stored row count n. A search limit out of range refuses it, as it refuses a choice.
 pub fn supplied_bv(number: u64, bv: u8, shifted: &[u8], n: u8, options: Options) -> Choice
-    ensures { λ r. ⌜ r ≡ suppliedOf searchLimit number bv (now (shifted .entry)) n options ⌝ }
+    ensures { λ r. ⌜ r ≡ suppliedOf number bv (now (shifted .entry)) n options ⌝ }
 {
     let length = shifted.len();
     if length != 4080 {
         let none = Bvs::none();
         return refused(Answer::WrongBufferLength(length), none);
     }
+    let limit = options.search_limit;
+    if !Options::limit_fits(limit) {
+        let none = Bvs::none();
+        return refused(Answer::LimitOutOfRange(limit), none);
+    }
     let poll = votes::votes_for(shifted, bv);
     let dissent = saturating_sub(poll.total, poll.votes);
     let matches = slots::trailer_row_count_matches(
         shifted,
         bv,
-        slots::SEARCH_LIMIT,
+        limit,
         n,
         options.min_trailer_count,
     );

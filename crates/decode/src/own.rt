@@ -1,9 +1,8 @@
 // The decoding of a stored page by its own scan: that from a summary, at what the scan finds.
 ghost use mathlib.Core.Path.{_≡_};
 ghost use lib.ListN.{length};
-ghost use Rattle.slots.specs.Slots.{searchLimit};
 ghost use Rattle.decode.specs.Decode.{ownDecoding, ownSupplied, ownWritten};
-use crate::lengths::check_lengths;
+use crate::entries::check_entry;
 use crate::plaintext::deliver;
 use answers::Options;
 use verdict::Decoding;
@@ -15,12 +14,12 @@ pub fn decode_page(
     options: Options,
     out: &mut [u8],
 ) -> Decoding
-    ensures { λ r. ⌜ (r ≡ ownDecoding searchLimit number (now (stored .entry)) (now (anchors .entry)) options (length (now (out .entry))))
+    ensures { λ r. ⌜ (r ≡ ownDecoding number (now (stored .entry)) (now (anchors .entry)) options (length (now (out .entry))))
         × (now (out .exit) ≡ ownWritten number r (now (stored .entry)) (now (out .entry))) ⌝ }
 {
-    let lengths = check_lengths(stored.len(), out.len(), 4080);
-    if !lengths.accepted() {
-        return verdict::refused(lengths);
+    let entry = check_entry(stored.len(), out.len(), 4080, options.search_limit);
+    if !entry.accepted() {
+        return verdict::refused(entry);
     }
     if page::is_unallocated(stored) {
         numbers::copy(stored, out);
@@ -53,12 +52,12 @@ pub fn decode_with_bv(
     options: Options,
     out: &mut [u8],
 ) -> Decoding
-    ensures { λ r. ⌜ (r ≡ ownSupplied searchLimit number bv (now (stored .entry)) options (length (now (out .entry))))
+    ensures { λ r. ⌜ (r ≡ ownSupplied number bv (now (stored .entry)) options (length (now (out .entry))))
         × (now (out .exit) ≡ ownWritten number r (now (stored .entry)) (now (out .entry))) ⌝ }
 {
-    let lengths = check_lengths(stored.len(), out.len(), 4080);
-    if !lengths.accepted() {
-        return verdict::refused(lengths);
+    let entry = check_entry(stored.len(), out.len(), 4080, options.search_limit);
+    if !entry.accepted() {
+        return verdict::refused(entry);
     }
     if page::is_unallocated(stored) {
         numbers::copy(stored, out);

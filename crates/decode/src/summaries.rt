@@ -1,9 +1,8 @@
 // The decoding of a stored page from its summary, own or alien.
 ghost use mathlib.Core.Path.{_≡_};
 ghost use lib.ListN.{length};
-ghost use Rattle.slots.specs.Slots.{searchLimit};
 ghost use Rattle.decode.specs.Decode.{decodingInto, suppliedDecodingOf, writtenOf};
-use crate::lengths::check_lengths;
+use crate::entries::check_entry;
 use crate::plaintext::deliver;
 use answers::Options;
 use sector::Fit;
@@ -19,12 +18,12 @@ pub fn decode_summary(
     options: Options,
     out: &mut [u8],
 ) -> Decoding
-    ensures { λ r. ⌜ (r ≡ decodingInto searchLimit number (now (stored .entry)) fits (now (shifted .entry)) (now (anchors .entry)) options (now (out .entry)))
+    ensures { λ r. ⌜ (r ≡ decodingInto number (now (stored .entry)) fits (now (shifted .entry)) (now (anchors .entry)) options (now (out .entry)))
         × (now (out .exit) ≡ writtenOf r (now (stored .entry)) (now (shifted .entry)) (now (out .entry))) ⌝ }
 {
-    let lengths = check_lengths(stored.len(), out.len(), shifted.len());
-    if !lengths.accepted() {
-        return verdict::refused(lengths);
+    let entry = check_entry(stored.len(), out.len(), shifted.len(), options.search_limit);
+    if !entry.accepted() {
+        return verdict::refused(entry);
     }
     if page::is_unallocated(stored) {
         numbers::copy(stored, out);
@@ -54,12 +53,12 @@ pub fn decode_summary_with_bv(
     options: Options,
     out: &mut [u8],
 ) -> Decoding
-    ensures { λ r. ⌜ (r ≡ suppliedDecodingOf searchLimit number bv (now (stored .entry)) fits (now (shifted .entry)) options (length (now (out .entry))))
+    ensures { λ r. ⌜ (r ≡ suppliedDecodingOf number bv (now (stored .entry)) fits (now (shifted .entry)) options (length (now (out .entry))))
         × (now (out .exit) ≡ writtenOf r (now (stored .entry)) (now (shifted .entry)) (now (out .entry))) ⌝ }
 {
-    let lengths = check_lengths(stored.len(), out.len(), shifted.len());
-    if !lengths.accepted() {
-        return verdict::refused(lengths);
+    let entry = check_entry(stored.len(), out.len(), shifted.len(), options.search_limit);
+    if !entry.accepted() {
+        return verdict::refused(entry);
     }
     if page::is_unallocated(stored) {
         numbers::copy(stored, out);

@@ -10,7 +10,7 @@ use Rattle.lists.specs.Bytes.{byteAt}
 use Rattle.lists.specs.Counts.{allSame}
 use Rattle.lists.proofs.Each.{each-at}
 use Rattle.answers.specs.Answers.{isAccepted}
-use Rattle.answers.specs.Settings.{keystream}
+use Rattle.answers.specs.Settings.{keystream, limitFits}
 use Rattle.answers.specs.Warns.{noWarnings}
 use Rattle.answers.specs.declared.kinds.Answer.{Answer}
 use Rattle.answers.specs.declared.kinds.Answer.the-variants as answer
@@ -91,72 +91,79 @@ module _ (number : ℕ) (stored : List ℕ) (bv : ℕ) (whole : length stored �
 
 -- ---- the page is read
 
-module _ (lim number : ℕ) (stored anchors : List ℕ) (o : Options) (bv : ℕ) (sound : GoodPage number stored) where
-  abbrev shifted : List ℕ
-  shifted = bytesOf number stored
+module _
+    (number : ℕ)
+    (stored anchors : List ℕ)
+    (o : Options)
+    (bv : ℕ)
+    (sound : GoodPage number stored)
+    (fits : limitFits (o .«search_limit») ≡ true)
+  where
+    abbrev shifted : List ℕ
+    shifted = bytesOf number stored
 
-  abbrev c : Choice
-  c = choiceOf lim number shifted anchors (rowCount stored) o
+    abbrev c : Choice
+    c = choiceOf number shifted anchors (rowCount stored) o
 
-  abbrev d : Decoding
-  d = readPage lim number stored anchors o 4096
+    abbrev d : Decoding
+    d = readPage number stored anchors o 4096
 
-  -- a decoding that has the choice, and the choice's marks
-  accepted :
-      (s : Source) (k : Confidence) (ws : Warnings)
-      → d ≡ record { choice = c; fits = fitsOf number stored; warnings = ws }
-      → Marked c answer.Accepted s k warning.Nothing
-      → c .bv ≡ bv
-      → ReadAs d bv s k ws
-  accepted s k ws e m v =
-      subst (λ (x : Decoding). ReadAs x bv s k ws) (sym e)
-      (record { answered = m .answered; value = v; from = m .from; trusted = m .trusted; warned = refl })
+    -- a decoding that has the choice, and the choice's marks
+    accepted :
+        (s : Source) (k : Confidence) (ws : Warnings)
+        → d ≡ record { choice = c; fits = fitsOf number stored; warnings = ws }
+        → Marked c answer.Accepted s k warning.Nothing
+        → c .bv ≡ bv
+        → ReadAs d bv s k ws
+    accepted s k ws e m v =
+        subst (λ (x : Decoding). ReadAs x bv s k ws) (sym e)
+        (record { answered = m .answered; value = v; from = m .from; trusted = m .trusted; warned = refl })
 
-  good : (s : Source) (k : Confidence) → Marked c answer.Accepted s k warning.Nothing → isAccepted (c .answer) ≡ true
-  good s k m = ap (λ (x : Answer). isAccepted x) (m .answered)
+    good : (s : Source) (k : Confidence) → Marked c answer.Accepted s k warning.Nothing → isAccepted (c .answer) ≡ true
+    good s k m = ap (λ (x : Answer). isAccepted x) (m .answered)
 
-  read-exact : rowCount stored ≡ 0 → OneValue number stored bv → ReadAs d bv source.ExactSectors confidence.Calibrated noWarnings
-  read-exact none one =
-      let long : length shifted ≡ 4080 = summary-length number stored (sound .whole) in
-      let small : bv < 256 = subst (λ (v : ℕ). v < 256) (one .at 0 (omega arith)) (summary-bytes number stored (sound .whole) .at 0 (omega arith)) in
-      let r =
-      choice-means .all-exact lim number shifted anchors o bv long small
-      (λ s h. (exact-at number stored bv (sound .whole) one s h, one .at (s * 512) (omega arith))) in
-      let same : choiceOf lim number shifted anchors 0 o ≡ c = ap (λ (n : ℕ). choiceOf lim number shifted anchors n o) (sym none) in
-      let m : Marked c answer.Accepted source.ExactSectors confidence.Calibrated warning.Nothing =
-      subst (λ (x : Choice). Marked x answer.Accepted source.ExactSectors confidence.Calibrated warning.Nothing) same (r .0 .marked) in
-      let v : c .bv ≡ bv = ap (λ (x : Choice). x .bv) (sym same) ∙ r .1 in
-      accepted source.ExactSectors confidence.Calibrated noWarnings
-      (page-sure lim number stored anchors o sound (good source.ExactSectors confidence.Calibrated m) (m .warned)
-      (confident number stored bv (sound .whole) one))
-      m v
+    read-exact : rowCount stored ≡ 0 → OneValue number stored bv → ReadAs d bv source.ExactSectors confidence.Calibrated noWarnings
+    read-exact none one =
+        let long : length shifted ≡ 4080 = summary-length number stored (sound .whole) in
+        let small : bv < 256 = subst (λ (v : ℕ). v < 256) (one .at 0 (omega arith)) (summary-bytes number stored (sound .whole) .at 0 (omega arith)) in
+        let r =
+        choice-means .all-exact number shifted anchors o bv long fits small
+        (λ s h. (exact-at number stored bv (sound .whole) one s h, one .at (s * 512) (omega arith))) in
+        let same : choiceOf number shifted anchors 0 o ≡ c = ap (λ (n : ℕ). choiceOf number shifted anchors n o) (sym none) in
+        let m : Marked c answer.Accepted source.ExactSectors confidence.Calibrated warning.Nothing =
+        subst (λ (x : Choice). Marked x answer.Accepted source.ExactSectors confidence.Calibrated warning.Nothing) same (r .0 .marked) in
+        let v : c .bv ≡ bv = ap (λ (x : Choice). x .bv) (sym same) ∙ r .1 in
+        accepted source.ExactSectors confidence.Calibrated noWarnings
+        (page-sure number stored anchors o sound fits (good source.ExactSectors confidence.Calibrated m) (m .warned)
+        (confident number stored bv (sound .whole) one))
+        m v
 
-  module _ (few : candidateNumber shifted ≤ 8) (sole : SoleVerified lim shifted anchors (rowCount stored) (o .«min_trailer_count») bv) where
-    taken : ByRowCount lim number shifted anchors (rowCount stored) o c × (c .bv ≡ bv)
-    taken =
-        choice-means .made lim number shifted anchors (rowCount stored) o .row-count
-        (record { long = summary-length number stored (sound .whole); bytes = summary-bytes number stored (sound .whole); few = few }) bv sole
+    module _ (few : candidateNumber shifted ≤ 8) (sole : SoleVerified (o .«search_limit») shifted anchors (rowCount stored) (o .«min_trailer_count») bv) where
+      taken : ByRowCount number shifted anchors (rowCount stored) o c × (c .bv ≡ bv)
+      taken =
+          choice-means .made number shifted anchors (rowCount stored) o .row-count
+          (record { long = summary-length number stored (sound .whole); within = fits; bytes = summary-bytes number stored (sound .whole); few = few }) bv sole
 
-    marked : Marked c answer.Accepted source.TrailerRowCount confidence.Verified warning.Nothing
-    marked = taken .0 .marked
+      marked : Marked c answer.Accepted source.TrailerRowCount confidence.Verified warning.Nothing
+      marked = taken .0 .marked
 
-    read-verified : Confident (fitsOf number stored) → ReadAs d bv source.TrailerRowCount confidence.Verified noWarnings
-    read-verified sure =
-        accepted source.TrailerRowCount confidence.Verified noWarnings
-        (page-sure lim number stored anchors o sound (good source.TrailerRowCount confidence.Verified marked) (marked .warned) sure) marked (taken .1)
+      read-verified : Confident (fitsOf number stored) → ReadAs d bv source.TrailerRowCount confidence.Verified noWarnings
+      read-verified sure =
+          accepted source.TrailerRowCount confidence.Verified noWarnings
+          (page-sure number stored anchors o sound fits (good source.TrailerRowCount confidence.Verified marked) (marked .warned) sure) marked (taken .1)
 
-    read-let-through :
-        keystream o ≡ true
-        → ReadAs d bv source.TrailerRowCount confidence.Verified (sectorWarnings number (fitsOf number stored) noWarnings 8)
-    read-let-through l =
-        accepted source.TrailerRowCount confidence.Verified (sectorWarnings number (fitsOf number stored) noWarnings 8)
-        (page-lenient lim number stored anchors o sound (good source.TrailerRowCount confidence.Verified marked) (marked .warned) l) marked (taken .1)
+      read-let-through :
+          keystream o ≡ true
+          → ReadAs d bv source.TrailerRowCount confidence.Verified (sectorWarnings number (fitsOf number stored) noWarnings 8)
+      read-let-through l =
+          accepted source.TrailerRowCount confidence.Verified (sectorWarnings number (fitsOf number stored) noWarnings 8)
+          (page-lenient number stored anchors o sound fits (good source.TrailerRowCount confidence.Verified marked) (marked .warned) l) marked (taken .1)
 
 pub accepts : Accepts
 accepts =
     record {
       keyed = one-value;
       exact = read-exact;
-      verified = λ lim number stored anchors o bv sound sure few sole. read-verified lim number stored anchors o bv sound few sole sure;
-      let-through = λ lim number stored anchors o bv sound l few sole. read-let-through lim number stored anchors o bv sound few sole l;
+      verified = λ number stored anchors o bv sound fits sure few sole. read-verified number stored anchors o bv sound fits few sole sure;
+      let-through = λ number stored anchors o bv sound fits l few sole. read-let-through number stored anchors o bv sound fits few sole l;
     }

@@ -66,25 +66,25 @@ module _ (lim : ℕ) (shifted : List ℕ) (n t : ℕ) (a b : List ℕ) (s : Same
   same-assessment = rw same-candidates
 
 same-choice :
-    (lim number : ℕ) (shifted a b : List ℕ) (n : ℕ) (o : Options)
+    (number : ℕ) (shifted a b : List ℕ) (n : ℕ) (o : Options)
     → SameCandidates shifted a b
-    → choiceOf lim number shifted a n o ≡ choiceOf lim number shifted b n o
+    → choiceOf number shifted a n o ≡ choiceOf number shifted b n o
 unfolding choiceOf
-same-choice lim number shifted a b n o s = rw (same-assessment lim shifted n (o .«min_trailer_count») a b s)
+same-choice number shifted a b n o s = rw (same-assessment (o .«search_limit») shifted n (o .«min_trailer_count») a b s)
 
 same-decoding :
-    (lim number : ℕ) (stored : List ℕ) (fits : List Fit) (shifted a b : List ℕ) (o : Options) (m : ℕ)
+    (number : ℕ) (stored : List ℕ) (fits : List Fit) (shifted a b : List ℕ) (o : Options) (m : ℕ)
     → SameCandidates shifted a b
-    → decodingOf lim number stored fits shifted a o m ≡ decodingOf lim number stored fits shifted b o m
+    → decodingOf number stored fits shifted a o m ≡ decodingOf number stored fits shifted b o m
 unfolding decodingOf verdictOf verdictBy
-same-decoding lim number stored fits shifted a b o m s = rw (same-choice lim number shifted a b (rowCount stored) o s)
+same-decoding number stored fits shifted a b o m s = rw (same-choice number shifted a b (rowCount stored) o s)
 
 pub anchors-are-a-set : AnchorsAreASet
 anchors-are-a-set =
     record {
       choice = same-choice;
       decoding = same-decoding;
-      read = λ lim number stored a b o m s. same-decoding lim number stored (fitsOf number stored) (bytesOf number stored) a b o m s;
+      read = λ number stored a b o m s. same-decoding number stored (fitsOf number stored) (bytesOf number stored) a b o m s;
       members = λ shifted a b s. record { both = λ v h q. s .both v h };
       order = λ a b. record { both = λ v h. in-append v a b ∙ or-order (isIn v a) (isIn v b) ∙ sym (in-append v b a) };
       repeats = λ a. record { both = λ v h. in-append v a a ∙ or-same (isIn v a) };

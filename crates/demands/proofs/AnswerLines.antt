@@ -1,7 +1,7 @@
 -- The lines of the answers that the rules can give, in any table that has them; and what a refusal has beside its answer. Assumes nothing.
 use Prim.Native.Nat.{ℕ, _≤_}
 use mathlib.Core.Path.{_≡_, refl, sym, ap, _∙_}
-use mathlib.Core.Bool.{Bool, false, _&&_}
+use mathlib.Core.Bool.{Bool, true, false, _&&_}
 use mathlib.Core.List.{List, [], _∷_}
 use native.Mathlib.Omega.{arith}
 use borrow.Author.Tests.{ltb-false}
@@ -32,12 +32,12 @@ use Rattle.choice.specs.declared.Choice.{Choice}
 use Rattle.groups.specs.declared.Group.{Group}
 use Rattle.groups.specs.declared.Group.the-variants.{Verified, Voted, Rivals, Contest}
 use Rattle.groups.specs.Groups.{firstOf, group, bvsOf}
-use Rattle.answers.specs.Settings.{keystream}
+use Rattle.answers.specs.Settings.{keystream, limitFits}
 use Rattle.choice.specs.Rules.{takenOf, refusedOf, ambiguousOf, unverifiedOf, topCandidate, isCorroborated, ruleFour, ruleThree, isCalibrated, ruleTwo, soleOf, ruleOne, chosen, choiceOf}
 use Rattle.choice.specs.Supplied.{suppliedWith, suppliedBy, suppliedOf}
 use Rattle.verdict.specs.declared.Decoding.{Decoding}
 use Rattle.verdict.specs.Verdict.{refusal, unallocatedOf, settledOf}
-use Rattle.decode.specs.Decode.{lengthsChecked}
+use Rattle.decode.specs.Decode.{entryChecked}
 use Rattle.demands.specs.Told.{Line, valuesAt, weakValues, firstWrong}
 use Rattle.demands.specs.Demand1.{Ascending, NothingTaken}
 use Rattle.demands.proofs.DecodingCases.{settled-case, checked-case}
@@ -145,20 +145,26 @@ module _
           pick-case (Chooses lines) (eqb (length verified) 1) (soleOf number lenient a (firstOf verified)) (ruleTwo number lenient a)
           (λ f. on-sole (firstOf verified)) (λ f. on-two))
 
-module _ (lines : List Line) (lim number : ℕ) (shifted anchors : List ℕ) (n : ℕ) (o : Options) where
+module _ (lines : List Line) (number : ℕ) (shifted anchors : List ℕ) (n : ℕ) (o : Options) where
   pub choice-gives :
       Has lines 0 []
       → (eqb (length shifted) 4080 ≡ false → Has lines 2 (length shifted ∷ []))
       → Has lines 5 (number ∷ [])
       → Has lines 6 (number ∷ topOf (countsOf shifted) ∷ [])
       → Has lines 15 (number ∷ [])
-      → Chooses lines (choiceOf lim number shifted anchors n o)
+      → (limitFits (o .«search_limit») ≡ false → Has lines 20 (o .«search_limit» ∷ []))
+      → Chooses lines (choiceOf number shifted anchors n o)
   unfolding choiceOf chosen
-  choice-gives zero two five six fifteen =
+  choice-gives zero two five six fifteen twenty =
+      let lim : ℕ = o .«search_limit» in
       let a : Assessment = assessmentOf lim shifted anchors n (o .«min_trailer_count») in
       let full : Choice = refusedOf (answer.TooManyCandidates number) noBvs in
-      pick-case (Chooses lines) (eqb (length shifted) 4080) (chosen number (keystream o) a) (refusedOf (answer.WrongBufferLength (length shifted)) noBvs)
+      let out : Choice = refusedOf (answer.LimitOutOfRange lim) noBvs in
+      pick-case (Chooses lines) (eqb (length shifted) 4080) (pick (limitFits lim) (chosen number (keystream o) a) out)
+      (refusedOf (answer.WrongBufferLength (length shifted)) noBvs)
       (λ e.
+      pick-case (Chooses lines) (limitFits lim) (chosen number (keystream o) a) out
+      (λ w.
       pick-case (Chooses lines) (ltb 8 (a .candidates .len)) full (ruleOne number (keystream o) a)
       (λ f. chooses-refused lines (answer.TooManyCandidates number) fifteen)
       (λ f.
@@ -166,6 +172,7 @@ module _ (lines : List Line) (lim number : ℕ) (shifted anchors : List ℕ) (n 
       let top : topCandidate a .bv ≡ topOf (countsOf shifted) = top-bv lim shifted anchors n (o .«min_trailer_count») few in
       on-one lines number (keystream o) a (λ g. group-ascends lim shifted anchors n (o .«min_trailer_count») g few) zero five
       (six ∙ ap (λ (v : ℕ). (number ∷ v ∷ []) ∷ []) (sym top))))
+      (λ w. chooses-refused lines (answer.LimitOutOfRange lim) (twenty w)))
       (λ e. chooses-refused lines (answer.WrongBufferLength (length shifted)) (two e))
 
 module _ (lines : List Line) (number bv : ℕ) (zero : Has lines 0 []) (six : Has lines 6 (number ∷ bv ∷ [])) where
@@ -189,13 +196,18 @@ module _ (lines : List Line) (number bv : ℕ) (zero : Has lines 0 []) (six : Ha
       backs k g w = record { is = zero; quiet = λ e. absurd (never-both e refl) }
 
   pub supplied-gives :
-      (lim : ℕ) (shifted : List ℕ) (n : ℕ) (o : Options)
+      (shifted : List ℕ) (n : ℕ) (o : Options)
       → (eqb (length shifted) 4080 ≡ false → Has lines 2 (length shifted ∷ []))
-      → Chooses lines (suppliedOf lim number bv shifted n o)
+      → (limitFits (o .«search_limit») ≡ false → Has lines 20 (o .«search_limit» ∷ []))
+      → Chooses lines (suppliedOf number bv shifted n o)
   unfolding suppliedOf
-  supplied-gives lim shifted n o two =
+  supplied-gives shifted n o two twenty =
+      let out : Choice = refusedOf (answer.LimitOutOfRange (o .«search_limit»)) noBvs in
       pick-case (Chooses lines) (eqb (length shifted) 4080) _ (refusedOf (answer.WrongBufferLength (length shifted)) noBvs)
-      (λ e. on-supplied (keystream o) _ _ _) (λ e. chooses-refused lines (answer.WrongBufferLength (length shifted)) (two e))
+      (λ e.
+      pick-case (Chooses lines) (limitFits (o .«search_limit»)) _ out (λ w. on-supplied (keystream o) _ _ _)
+      (λ w. chooses-refused lines (answer.LimitOutOfRange (o .«search_limit»)) (twenty w)))
+      (λ e. chooses-refused lines (answer.WrongBufferLength (length shifted)) (two e))
 
 -- ---- decodings
 
@@ -214,14 +226,16 @@ module _ (lines : List Line) where
       (gives-refusal (answer.LowConfidenceKeystream number _ _ _) seven) (λ e all. record { is = h .is; quiet = h .quiet })
 
   pub gives-checked :
-      (stored shifted : List ℕ) (m : ℕ) (d : Decoding)
-      → (length shifted ≡ 4080 → Gives lines d)
+      (stored shifted : List ℕ) (m lim : ℕ) (d : Decoding)
+      → (length shifted ≡ 4080 → limitFits lim ≡ true → Gives lines d)
       → Has lines 0 []
       → ((length stored ≡ 4096 → ⊥) → Has lines 1 (length stored ∷ []))
       → ((m ≡ 4096 → length shifted ≡ 4080 → ⊥) → Has lines 2 (firstWrong m (length shifted) ∷ []))
-      → Gives lines (lengthsChecked stored shifted m d)
+      → (limitFits lim ≡ false → Has lines 20 (lim ∷ []))
+      → Gives lines (entryChecked stored shifted m lim d)
   unfolding unallocatedOf
-  gives-checked stored shifted m d h zero one two =
-      checked-case (Gives lines) stored shifted m d (λ e. gives-refusal (answer.WrongPageLength (length stored)) (one e))
+  gives-checked stored shifted m lim d h zero one two twenty =
+      checked-case (Gives lines) stored shifted m lim d (λ e. gives-refusal (answer.WrongPageLength (length stored)) (one e))
       (λ e. gives-refusal (answer.WrongBufferLength (firstWrong m (length shifted))) (two e))
-      (λ l k j z. record { is = zero; quiet = λ e. absurd (never-both e refl) }) (λ l k j. h j)
+      (λ f. gives-refusal (answer.LimitOutOfRange lim) (twenty f))
+      (λ l k j f z. record { is = zero; quiet = λ e. absurd (never-both e refl) }) (λ l k j f. h j f)

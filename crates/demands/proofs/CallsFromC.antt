@@ -26,7 +26,6 @@ use Rattle.page.specs.declared.superblocks.SuperblockAnswer.{SuperblockAnswer}
 use Rattle.summary.specs.Page.{pageScanOf, scanned}
 use Rattle.summary.specs.Replace.{replaceAnswer, replaced, storedAfter, shiftedAfter}
 use Rattle.summary.specs.declared.pages.PageScan.{PageScan}
-use Rattle.slots.specs.Slots.{searchLimit}
 use Rattle.slotted.specs.Parses.{parsedOf}
 use Rattle.slotted.specs.declared.directories.Parsed.{Parsed}
 use Rattle.rows.specs.Rows.{startOf, endOf}
@@ -71,6 +70,7 @@ number-small (answer.BadReplacement sector) = omega arith
 number-small (answer.TooManyCandidates page) = omega arith
 number-small (answer.NoSuchRow row) = omega arith
 number-small answer.MalformedLine = omega arith
+number-small (answer.LimitOutOfRange limit) = omega arith
 
 -- a layout of n bytes that starts with an answer
 pub record StartsWith (n : ℕ) (x : Answer) (fs : List Field) : Type 0 where
@@ -251,8 +251,8 @@ calls-answered =
       scan = scan-told;
       replacement = replacement-told;
       decoding = decoding-told;
-      parse = λ number plain leniency. tells-lent (parse-starts (parsedOf searchLimit number plain (hasDirectory leniency)));
-      row-count = λ number plain leniency. tells-lent (row-count-starts _ _);
-      row = λ number plain leniency k. tells-lent (row-starts _ _);
-      rows = λ number plain leniency. tells-lent (rows-starts _ _);
+      parse = λ number plain leniency limit. tells-lent (parse-starts (parsedOf limit number plain (hasDirectory leniency)));
+      row-count = λ number plain leniency limit. tells-lent (row-count-starts _ _);
+      row = λ number plain leniency limit k. tells-lent (row-starts _ _);
+      rows = λ number plain leniency limit. tells-lent (rows-starts _ _);
     }

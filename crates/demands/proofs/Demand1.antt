@@ -15,7 +15,7 @@ use Rattle.lists.proofs.Over.{over-none}
 use Rattle.lists.proofs.Booleans.{not-back}
 use Rattle.lists.proofs.Picks.{pick-case, never-both}
 use Rattle.answers.specs.Answers.{isAccepted}
-use Rattle.answers.specs.Settings.{keystream}
+use Rattle.answers.specs.Settings.{keystream, limitFits}
 use Rattle.answers.specs.Warns.{noWarnings}
 use Rattle.answers.specs.declared.kinds.Answer.{Answer}
 use Rattle.answers.specs.declared.kinds.Answer.the-variants as answer
@@ -156,11 +156,11 @@ replaced-quiet number s new stored shifted fits e = (rw e, rw e, rw e)
 module _ (lim number : ℕ) (plain : List ℕ) where
   parse-has : HasParse (parseLines lim number plain) lim number plain
   unfolding valuesAt
-  parse-has = record { zero = refl; one = refl; eight = refl; nine = refl; ten = refl; eleven = refl; twelve = refl }
+  parse-has = record { zero = refl; one = refl; eight = refl; nine = refl; ten = refl; eleven = refl; twelve = refl; twenty = λ f. refl }
 
   row-has : (r : ℕ) → HasParse (rowLines lim number plain r) lim number plain
   unfolding valuesAt
-  row-has r = record { zero = refl; one = refl; eight = refl; nine = refl; ten = refl; eleven = refl; twelve = refl }
+  row-has r = record { zero = refl; one = refl; eight = refl; nine = refl; ten = refl; eleven = refl; twelve = refl; twenty = λ f. refl }
 
   module _ (lenient : Bool) where
     abbrev decided : Decided
@@ -254,33 +254,38 @@ no-two : (lines : List Line) (k : ℕ) → k ≡ 4080 → eqb k 4080 ≡ false �
 no-two lines k e f = absurd (never-both f (eq-eqb k 4080 e))
 
 choice-holds :
-    (lim number : ℕ) (shifted anchors : List ℕ) (n : ℕ) (o : Options)
-    → Chooses (choiceLines number shifted) (choiceOf lim number shifted anchors n o)
+    (number : ℕ) (shifted anchors : List ℕ) (n : ℕ) (o : Options)
+    → Chooses (choiceLines (o .«search_limit») number shifted) (choiceOf number shifted anchors n o)
 unfolding valuesAt
-choice-holds lim number shifted anchors n o = choice-gives (choiceLines number shifted) lim number shifted anchors n o refl (λ e. refl) refl refl refl
+choice-holds number shifted anchors n o =
+    choice-gives (choiceLines (o .«search_limit») number shifted) number shifted anchors n o refl (λ e. refl) refl refl refl (λ f. refl)
 
 support-holds :
-    (lim number bv : ℕ) (shifted : List ℕ) (n : ℕ) (o : Options)
-    → Chooses (supportLines number bv shifted) (suppliedOf lim number bv shifted n o)
+    (number bv : ℕ) (shifted : List ℕ) (n : ℕ) (o : Options)
+    → Chooses (supportLines (o .«search_limit») number bv shifted) (suppliedOf number bv shifted n o)
 unfolding valuesAt
-support-holds lim number bv shifted n o = supplied-gives (supportLines number bv shifted) number bv refl refl lim shifted n o (λ e. refl)
+support-holds number bv shifted n o =
+    supplied-gives (supportLines (o .«search_limit») number bv shifted) number bv refl refl shifted n o (λ e. refl) (λ f. refl)
 
-module _ (lim number : ℕ) (x : Answer) (n : ℕ) (fits : List Fit) (shifted anchors : List ℕ) (o : Options) where
+module _ (number : ℕ) (x : Answer) (n : ℕ) (fits : List Fit) (shifted anchors : List ℕ) (o : Options) where
   abbrev ruled : Choice
-  ruled = choiceOf lim number shifted anchors n o
+  ruled = choiceOf number shifted anchors n o
 
   abbrev judged : Decoding
-  judged = verdictBy lim number x n fits shifted anchors o
+  judged = verdictBy number x n fits shifted anchors o
 
-  settled-gives : (ws : Warnings) → Gives (verdictLines number fits shifted) (settledOf number (keystream o) (refitOf fits shifted) ruled ws)
+  abbrev lines : List Line
+  lines = verdictLines (o .«search_limit») number fits shifted
+
+  settled-gives : (ws : Warnings) → Gives lines (settledOf number (keystream o) (refitOf fits shifted) ruled ws)
   unfolding valuesAt
   settled-gives ws =
-      gives-settled (verdictLines number fits shifted) number (keystream o) (refitOf fits shifted) ruled ws
-      (choice-gives (verdictLines number fits shifted) lim number shifted anchors n o refl (λ e. refl) refl refl refl) refl
+      gives-settled lines number (keystream o) (refitOf fits shifted) ruled ws
+      (choice-gives lines number shifted anchors n o refl (λ e. refl) refl refl refl (λ f. refl)) refl
 
-  verdict-one : integrityRefuses x o ≡ false → OneOf (verdictLines number fits shifted) (judged .choice .answer)
+  verdict-one : integrityRefuses x o ≡ false → OneOf lines (judged .choice .answer)
   verdict-one e =
-      verdict-case (λ (d : Decoding). OneOf (verdictLines number fits shifted) (d .choice .answer)) lim number x n fits shifted anchors o
+      verdict-case (λ (d : Decoding). OneOf lines (d .choice .answer)) number x n fits shifted anchors o
       (λ r q. absurd (never-both e r)) (λ r ws. record { is = settled-gives ws .is })
 
   verdict-passed : integrityRefuses x o ≡ true → judged ≡ refusal x
@@ -290,26 +295,26 @@ module _ (lim number : ℕ) (x : Answer) (n : ℕ) (fits : List Fit) (shifted an
   verdict-quiet : isAccepted (judged .choice .answer) ≡ false → Silent judged
   verdict-quiet e =
       silent judged
-      (verdict-case (λ (d : Decoding). isAccepted (d .choice .answer) ≡ false → NothingTaken (d .choice)) lim number x n fits shifted anchors o
+      (verdict-case (λ (d : Decoding). isAccepted (d .choice .answer) ≡ false → NothingTaken (d .choice)) number x n fits shifted anchors o
       (λ r q f. refusal-taken x) (λ r ws. settled-gives ws .quiet) e)
-      (shaped-verdict lim number x n fits shifted anchors o .refused e) e
+      (shaped-verdict number x n fits shifted anchors o .refused e) e
 
-module _ (lim number bv n : ℕ) (fits : List Fit) (shifted : List ℕ) (o : Options) where
-  supplied-verdict-holds : Gives (suppliedVerdictLines number bv fits shifted) (suppliedVerdict lim number bv n fits shifted o)
+module _ (number bv n : ℕ) (fits : List Fit) (shifted : List ℕ) (o : Options) where
+  supplied-verdict-holds : Gives (suppliedVerdictLines (o .«search_limit») number bv fits shifted) (suppliedVerdict number bv n fits shifted o)
   unfolding valuesAt
   supplied-verdict-holds =
-      let lines : List Line = suppliedVerdictLines number bv fits shifted in
-      gives-settled lines number (keystream o) (refitOf fits shifted) (suppliedOf lim number bv shifted n o) noWarnings
-      (supplied-gives lines number bv refl refl lim shifted n o (λ e. refl)) refl
+      let lines : List Line = suppliedVerdictLines (o .«search_limit») number bv fits shifted in
+      gives-settled lines number (keystream o) (refitOf fits shifted) (suppliedOf number bv shifted n o) noWarnings
+      (supplied-gives lines number bv refl refl shifted n o (λ e. refl) (λ f. refl)) refl
 
   supplied-verdict-quiet :
-      isAccepted (suppliedVerdict lim number bv n fits shifted o .choice .answer) ≡ false
-      → Silent (suppliedVerdict lim number bv n fits shifted o)
+      isAccepted (suppliedVerdict number bv n fits shifted o .choice .answer) ≡ false
+      → Silent (suppliedVerdict number bv n fits shifted o)
   supplied-verdict-quiet e =
-      silent (suppliedVerdict lim number bv n fits shifted o) (supplied-verdict-holds .quiet e)
-      (shaped-settled (suppliedOf lim number bv shifted n o) (refitOf fits shifted) number (keystream o) noWarnings .refused e) e
+      silent (suppliedVerdict number bv n fits shifted o) (supplied-verdict-holds .quiet e)
+      (shaped-settled (suppliedOf number bv shifted n o) (refitOf fits shifted) number (keystream o) noWarnings .refused e) e
 
-module _ (lim number : ℕ) (stored : List ℕ) (fits : List Fit) (shifted anchors : List ℕ) (o : Options) (m : ℕ) where
+module _ (number : ℕ) (stored : List ℕ) (fits : List Fit) (shifted anchors : List ℕ) (o : Options) (m : ℕ) where
   pub decoding-gives :
       (lines : List Line)
       → Has lines 0 []
@@ -321,43 +326,57 @@ module _ (lim number : ℕ) (stored : List ℕ) (fits : List Fit) (shifted ancho
       → Has lines 6 (number ∷ topOf (countsOf shifted) ∷ [])
       → Has lines 7 (weakValues number (refitOf fits shifted))
       → Has lines 15 (number ∷ [])
-      → Gives lines (decodingOf lim number stored fits shifted anchors o m)
+      → (limitFits (o .«search_limit») ≡ false → Has lines 20 (o .«search_limit» ∷ []))
+      → Gives lines (decodingOf number stored fits shifted anchors o m)
   unfolding decodingOf verdictOf
-  decoding-gives lines zero one two three four five six seven fifteen =
+  decoding-gives lines zero one two three four five six seven fifteen twenty =
       let x : Answer = integrityOf number stored in
-      gives-checked lines stored shifted m (verdictOf lim number stored fits shifted anchors o)
-      (λ k.
-      verdict-case (Gives lines) lim number x (rowCount stored) fits shifted anchors o
+      gives-checked lines stored shifted m (o .«search_limit») (verdictOf number stored fits shifted anchors o)
+      (λ k f.
+      verdict-case (Gives lines) number x (rowCount stored) fits shifted anchors o
       (λ r q. gives-refusal lines x (integrity-one lines number stored zero one three four .is))
       (λ r ws.
-      gives-settled lines number (keystream o) (refitOf fits shifted) (choiceOf lim number shifted anchors (rowCount stored) o) ws
-      (choice-gives lines lim number shifted anchors (rowCount stored) o zero (no-two lines (length shifted) k) five six fifteen) seven))
-      zero one two
+      gives-settled lines number (keystream o) (refitOf fits shifted) (choiceOf number shifted anchors (rowCount stored) o) ws
+      (choice-gives lines number shifted anchors (rowCount stored) o zero (no-two lines (length shifted) k) five six fifteen twenty) seven))
+      zero one two twenty
 
-  decoding-holds : Gives (decodingLines number stored fits shifted m) (decodingOf lim number stored fits shifted anchors o m)
+  decoding-holds : Gives (decodingLines (o .«search_limit») number stored fits shifted m) (decodingOf number stored fits shifted anchors o m)
   unfolding valuesAt
-  decoding-holds = decoding-gives (decodingLines number stored fits shifted m) refl (λ e. refl) (λ e. refl) refl refl refl refl refl refl
+  decoding-holds =
+      decoding-gives (decodingLines (o .«search_limit») number stored fits shifted m) refl (λ e. refl) (λ e. refl) refl refl refl refl refl refl (λ f. refl)
 
   decoding-quiet :
-      isAccepted (decodingOf lim number stored fits shifted anchors o m .choice .answer) ≡ false
-      → Silent (decodingOf lim number stored fits shifted anchors o m)
-  decoding-quiet e = silent _ (decoding-holds .quiet e) (decoding-whole lim number stored fits shifted o m anchors .refused e) e
+      isAccepted (decodingOf number stored fits shifted anchors o m .choice .answer) ≡ false
+      → Silent (decodingOf number stored fits shifted anchors o m)
+  decoding-quiet e = silent _ (decoding-holds .quiet e) (decoding-whole number stored fits shifted o m anchors .refused e) e
 
-module _ (lim number bv : ℕ) (stored : List ℕ) (fits : List Fit) (shifted : List ℕ) (o : Options) (m : ℕ) where
-  supplied-holds : Gives (suppliedLines number bv stored fits shifted m) (suppliedDecodingOf lim number bv stored fits shifted o m)
-  unfolding suppliedDecodingOf valuesAt
+module _ (number bv : ℕ) (stored : List ℕ) (fits : List Fit) (shifted : List ℕ) (o : Options) (m : ℕ) where
+  pub supplied-decoding-gives :
+      (lines : List Line)
+      → Has lines 0 []
+      → ((length stored ≡ 4096 → ⊥) → Has lines 1 (length stored ∷ []))
+      → ((m ≡ 4096 → length shifted ≡ 4080 → ⊥) → Has lines 2 (firstWrong m (length shifted) ∷ []))
+      → Has lines 6 (number ∷ bv ∷ [])
+      → Has lines 7 (weakValues number (refitOf fits shifted))
+      → (limitFits (o .«search_limit») ≡ false → Has lines 20 (o .«search_limit» ∷ []))
+      → Gives lines (suppliedDecodingOf number bv stored fits shifted o m)
+  unfolding suppliedDecodingOf
+  supplied-decoding-gives lines zero one two six seven twenty =
+      gives-checked lines stored shifted m (o .«search_limit») (suppliedVerdict number bv (rowCount stored) fits shifted o)
+      (λ k f.
+      gives-settled lines number (keystream o) (refitOf fits shifted) (suppliedOf number bv shifted (rowCount stored) o) noWarnings
+      (supplied-gives lines number bv zero six shifted (rowCount stored) o (no-two lines (length shifted) k) twenty) seven)
+      zero one two twenty
+
+  supplied-holds : Gives (suppliedLines (o .«search_limit») number bv stored fits shifted m) (suppliedDecodingOf number bv stored fits shifted o m)
+  unfolding valuesAt
   supplied-holds =
-      let lines : List Line = suppliedLines number bv stored fits shifted m in
-      gives-checked lines stored shifted m (suppliedVerdict lim number bv (rowCount stored) fits shifted o)
-      (λ k.
-      gives-settled lines number (keystream o) (refitOf fits shifted) (suppliedOf lim number bv shifted (rowCount stored) o) noWarnings
-      (supplied-gives lines number bv refl refl lim shifted (rowCount stored) o (no-two lines (length shifted) k)) refl)
-      refl (λ e. refl) (λ e. refl)
+      supplied-decoding-gives (suppliedLines (o .«search_limit») number bv stored fits shifted m) refl (λ e. refl) (λ e. refl) refl refl (λ f. refl)
 
   supplied-quiet :
-      isAccepted (suppliedDecodingOf lim number bv stored fits shifted o m .choice .answer) ≡ false
-      → Silent (suppliedDecodingOf lim number bv stored fits shifted o m)
-  supplied-quiet e = silent _ (supplied-holds .quiet e) (supplied-whole lim number stored fits shifted o m bv .refused e) e
+      isAccepted (suppliedDecodingOf number bv stored fits shifted o m .choice .answer) ≡ false
+      → Silent (suppliedDecodingOf number bv stored fits shifted o m)
+  supplied-quiet e = silent _ (supplied-holds .quiet e) (supplied-whole number stored fits shifted o m bv .refused e) e
 
 -- ---- the demand
 
@@ -376,13 +395,13 @@ every-input-answered =
       located = located-one;
       row = row-one;
       counted = parse-one;
-      choice = λ lim number shifted anchors n o. record { is = choice-holds lim number shifted anchors n o .is };
-      support = λ lim number bv shifted n o. record { is = support-holds lim number bv shifted n o .is };
+      choice = λ number shifted anchors n o. record { is = choice-holds number shifted anchors n o .is };
+      support = λ number bv shifted n o. record { is = support-holds number bv shifted n o .is };
       verdict = verdict-one;
       passed-on = verdict-passed;
-      supplied-verdict = λ lim number bv n fits shifted o. record { is = supplied-verdict-holds lim number bv n fits shifted o .is };
-      decoding = λ lim number stored fits shifted anchors o m. record { is = decoding-holds lim number stored fits shifted anchors o m .is };
-      supplied = λ lim number bv stored fits shifted o m. record { is = supplied-holds lim number bv stored fits shifted o m .is };
+      supplied-verdict = λ number bv n fits shifted o. record { is = supplied-verdict-holds number bv n fits shifted o .is };
+      decoding = λ number stored fits shifted anchors o m. record { is = decoding-holds number stored fits shifted anchors o m .is };
+      supplied = λ number bv stored fits shifted o m. record { is = supplied-holds number bv stored fits shifted o m .is };
     }
 
 pub refusals-silent : Refused
@@ -399,8 +418,8 @@ refusals-silent =
       part = part-empty;
       counted = counted-quiet;
       starts = starts-quiet;
-      choice = λ lim number shifted anchors n o. choice-holds lim number shifted anchors n o .quiet;
-      support = λ lim number bv shifted n o. support-holds lim number bv shifted n o .quiet;
+      choice = λ number shifted anchors n o. choice-holds number shifted anchors n o .quiet;
+      support = λ number bv shifted n o. support-holds number bv shifted n o .quiet;
       verdict = verdict-quiet;
       supplied-verdict = supplied-verdict-quiet;
       decoding = decoding-quiet;

@@ -13,6 +13,8 @@ use Rattle.lists.proofs.Each.{each-at}
 use Rattle.lists.proofs.AllBytes.{count-plain}
 use Rattle.lists.proofs.Plain.{plain-length}
 use Rattle.answers.specs.Answers.{isAccepted}
+use Rattle.answers.specs.Settings.{limitFits}
+use Rattle.answers.proofs.Limits.{limit-within}
 use Rattle.answers.specs.declared.settings.Options.{Options}
 use Rattle.answers.specs.declared.trust.Evidence.the-variants as evidence
 use Rattle.answers.specs.declared.trust.Source.the-variants as source
@@ -67,10 +69,10 @@ best-fit offset l =
 module _
     (number : ℕ)
     (stored out : List ℕ)
-    (m : ℕ)
+    (m lim : ℕ)
     (c : Choice)
     (d : Decoding)
-    (w : Whole stored (bytesOf number stored) m c (refitOf (fitsOf number stored) (bytesOf number stored)) d)
+    (w : Whole stored (bytesOf number stored) m lim c (refitOf (fitsOf number stored) (bytesOf number stored)) d)
     (all : AllBytes stored)
     (used : isUnallocated stored ≡ false)
     (good : isAccepted (d .choice .answer) ≡ true)
@@ -136,7 +138,7 @@ module _
         }
 
 module _
-    (lim number : ℕ)
+    (number : ℕ)
     (stored anchors : List ℕ)
     (o : Options)
     (out : List ℕ)
@@ -144,33 +146,36 @@ module _
     (used : isUnallocated stored ≡ false)
   where
     abbrev d : Decoding
-    d = readPage lim number stored anchors o (length out)
+    d = readPage number stored anchors o (length out)
 
     module _ (good : isAccepted (d .choice .answer) ≡ true) where
       abbrev n : ℕ
       n = rowCount stored
 
+      abbrev lim : ℕ
+      lim = o .«search_limit»
+
       abbrev a : Assessment
       a = assessmentOf lim (bytesOf number stored) anchors n (o .«min_trailer_count»)
 
-      w : Whole stored (bytesOf number stored) (length out) (choiceOf lim number (bytesOf number stored) anchors n o) (refitOf (fitsOf number stored) (bytesOf number stored)) d
-      w = decoding-whole lim number stored (fitsOf number stored) (bytesOf number stored) o (length out) anchors
+      w : Whole stored (bytesOf number stored) (length out) lim (choiceOf number (bytesOf number stored) anchors n o) (refitOf (fitsOf number stored) (bytesOf number stored)) d
+      w = decoding-whole number stored (fitsOf number stored) (bytesOf number stored) o (length out) anchors
 
       read-recovered : Recovered number stored d (leftIn out number stored d)
-      read-recovered = recovered number stored out (length out) (choiceOf lim number (bytesOf number stored) anchors n o) d w all used good
+      read-recovered = recovered number stored out (length out) lim (choiceOf number (bytesOf number stored) anchors n o) d w all used good
 
-      ruled : d .choice ≡ choiceOf lim number (bytesOf number stored) anchors n o
+      ruled : d .choice ≡ choiceOf number (bytesOf number stored) anchors n o
       ruled = w .accepted used good .0
 
       summarized : AllBytes (bytesOf number stored)
       summarized = summary-bytes number stored (w .lengths good .0)
 
-      chosen : Chosen lim (bytesOf number stored) anchors n (o .«min_trailer_count») (choiceOf lim number (bytesOf number stored) anchors n o)
+      chosen : Chosen lim (bytesOf number stored) anchors n (o .«min_trailer_count») (choiceOf number (bytesOf number stored) anchors n o)
       chosen =
-          chosen-stands lim number (bytesOf number stored) anchors n o summarized (ap (λ (c : Choice). isAccepted (c .answer)) (sym ruled) ∙ good)
+          chosen-stands number (bytesOf number stored) anchors n o summarized (ap (λ (c : Choice). isAccepted (c .answer)) (sym ruled) ∙ good)
 
       abbrev v : ℕ
-      v = choiceOf lim number (bytesOf number stored) anchors n o .bv
+      v = choiceOf number (bytesOf number stored) anchors n o .bv
 
       bv-is : d .choice .bv ≡ v
       bv-is = ap (λ (c : Choice). c .bv) ruled
@@ -187,43 +192,48 @@ module _
           counts-at (bytesOf number stored) v (chosen .byte)
           ∙ ap (λ (x : ℕ). count x (bytesOf number stored)) (sym bv-is)
           ∙ sym (count-plain (d .choice .bv) (bytesOf number stored) small summarized)
-          ∙ ap (count 0) (sym (taken-is number stored out (length out) (choiceOf lim number (bytesOf number stored) anchors n o) d w all used good))
+          ∙ ap (count 0) (sym (taken-is number stored out (length out) lim (choiceOf number (bytesOf number stored) anchors n o) d w all used good))
 
       abbrev written-page : List ℕ
       written-page = leftIn out number stored d
 
       page-is : written-page ≡ plainPage (d .choice .bv) (bytesOf number stored) stored
-      page-is = written-is number stored out (length out) (choiceOf lim number (bytesOf number stored) anchors n o) d w all used good
+      page-is = written-is number stored out (length out) lim (choiceOf number (bytesOf number stored) anchors n o) d w all used good
 
       row-count-is : rowCount written-page ≡ n
       row-count-is =
           sym (getD-drop 4080 written-page 0 0) ∙ ap (λ (l : List ℕ). getD l 0 0) (read-recovered .trailer) ∙ getD-drop 4080 stored 0 0
 
       -- the source says that the data written pass the test; the trailer behind them plays no part in it
-      written-passes : lim ≤ 4080 → d .choice .source ≡ source.TrailerRowCount → (0 < rowCount written-page) × (pageMatches lim written-page (o .«min_trailer_count») ≡ true)
+      written-passes :
+          d .choice .source ≡ source.TrailerRowCount
+          → (0 < rowCount written-page) × (pageMatches lim written-page (o .«min_trailer_count») ≡ true)
       unfolding pageMatches
-      written-passes l h =
-          let e : choiceOf lim number (bytesOf number stored) anchors n o .source ≡ source.TrailerRowCount = ap (λ (c : Choice). c .source) (sym ruled) ∙ h in
-          let said : ByRowCount lim number (bytesOf number stored) anchors n o (choiceOf lim number (bytesOf number stored) anchors n o) =
-          choice-means .said lim number (bytesOf number stored) anchors n o summarized .row-count e in
+      written-passes h =
+          let within : limitFits lim ≡ true = w .limit good in
+          let most : lim ≤ 2048 = limit-within lim within .1 in
+          let e : choiceOf number (bytesOf number stored) anchors n o .source ≡ source.TrailerRowCount = ap (λ (c : Choice). c .source) (sym ruled) ∙ h in
+          let said : ByRowCount number (bytesOf number stored) anchors n o (choiceOf number (bytesOf number stored) anchors n o) =
+          choice-means .said number (bytesOf number stored) anchors n o summarized .row-count e in
           let plain : List ℕ = plainOf (d .choice .bv) (bytesOf number stored) in
           let long : length plain ≡ 4080 = plain-length (d .choice .bv) (bytesOf number stored) ∙ w .lengths good .1 .1 in
           let passes : rowCountMatches lim plain n (o .«min_trailer_count») ≡ true =
           ap (λ (x : ℕ). rowCountMatches lim (plainOf x (bytesOf number stored)) n (o .«min_trailer_count»)) bv-is ∙ said .sole .passes in (
             omega (arith, row-count-is, said .sole .rows),
             ap₂ _&&_ (eq-eqb (length written-page) 4096 (read-recovered .whole))
+                (ap₂ _&&_ within
                 (ap₂ (λ (p : List ℕ) (k : ℕ). rowCountMatches lim p k (o .«min_trailer_count»)) page-is row-count-is
                 ∙ matches-data plain (drop 4080 stored) lim n (o .«min_trailer_count») (omega arith)
-                ∙ passes),
+                ∙ passes)),
           )
 
-      read-evident : Evident lim number stored anchors o d (leftIn out number stored d)
+      read-evident : Evident number stored anchors o d (leftIn out number stored d)
       unfolding candidateOf
       read-evident =
           record {
             choice = ruled;
             byte = small;
-            passes = λ l h. written-passes l h;
+            passes = written-passes;
             mass =
                 ap (λ (c : Choice). lastOf (c .grounds)) ruled
                 ∙ ap lastOf (chosen .grounds)
@@ -234,14 +244,14 @@ module _
 pub recovers : Recovers
 recovers =
     record {
-      read = λ lim number stored anchors o out all used good. (
-        read-recovered lim number stored anchors o out all used good,
-        read-evident lim number stored anchors o out all used good,
+      read = λ number stored anchors o out all used good. (
+        read-recovered number stored anchors o out all used good,
+        read-evident number stored anchors o out all used good,
       );
       supplied =
-          λ lim number bv stored o out all used good.
-          let w = supplied-whole lim number stored (fitsOf number stored) (bytesOf number stored) o (length out) bv in (
-            recovered number stored out (length out) (suppliedOf lim number bv (bytesOf number stored) (rowCount stored) o) (readWith lim number bv stored o (length out)) w
+          λ number bv stored o out all used good.
+          let w = supplied-whole number stored (fitsOf number stored) (bytesOf number stored) o (length out) bv in (
+            recovered number stored out (length out) (o .«search_limit») (suppliedOf number bv (bytesOf number stored) (rowCount stored) o) (readWith number bv stored o (length out)) w
                 all used good,
             w .accepted used good .0,
           );

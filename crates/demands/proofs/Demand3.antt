@@ -14,8 +14,8 @@ use Rattle.decode.specs.Decode.{decodingOf, suppliedDecodingOf, writtenOf}
 use Rattle.demands.specs.Demand3.{editedBy, edited, ReadAfresh, KeptFresh}
 
 -- what is fresh is read afresh
-read-afresh : (lim number : ℕ) (t : State) (stored : List ℕ) → Fresh number t → t .stored ≡ stored → ReadAfresh lim number t stored
-read-afresh lim number t stored f e =
+read-afresh : (number : ℕ) (t : State) (stored : List ℕ) → Fresh number t → t .stored ≡ stored → ReadAfresh number t stored
+read-afresh number t stored f e =
     let fits : t .fits ≡ fitsOf number stored = f .kept ∙ ap (fitsOf number) e in
     let bytes : t .shifted ≡ bytesOf number stored = f .bytes ∙ ap (bytesOf number) e in
     record {
@@ -23,12 +23,12 @@ read-afresh lim number t stored f e =
       summary = λ buffer h. fresh-is number t buffer f h ∙ ap (λ (l : List ℕ). atScan number l buffer) e;
       decoding =
           λ anchors o m.
-          ap₂ (λ (g : List Fit) (l : List ℕ). decodingOf lim number (t .stored) g l anchors o m) fits bytes
-          ∙ ap (λ (s : List ℕ). decodingOf lim number s (fitsOf number stored) (bytesOf number stored) anchors o m) e;
+          ap₂ (λ (g : List Fit) (l : List ℕ). decodingOf number (t .stored) g l anchors o m) fits bytes
+          ∙ ap (λ (s : List ℕ). decodingOf number s (fitsOf number stored) (bytesOf number stored) anchors o m) e;
       supplied =
           λ bv o m.
-          ap₂ (λ (g : List Fit) (l : List ℕ). suppliedDecodingOf lim number bv (t .stored) g l o m) fits bytes
-          ∙ ap (λ (s : List ℕ). suppliedDecodingOf lim number bv s (fitsOf number stored) (bytesOf number stored) o m) e;
+          ap₂ (λ (g : List Fit) (l : List ℕ). suppliedDecodingOf number bv (t .stored) g l o m) fits bytes
+          ∙ ap (λ (s : List ℕ). suppliedDecodingOf number bv s (fitsOf number stored) (bytesOf number stored) o m) e;
       written = λ d out. ap₂ (λ (s l : List ℕ). writtenOf d s l out) e bytes;
     }
 
@@ -49,9 +49,9 @@ pub kept-fresh : KeptFresh
 kept-fresh =
     record {
       afresh =
-          λ lim number stored buffer rs hp hb.
+          λ number stored buffer rs hp hb.
           let f : Fresh number (atScan number stored buffer) = fresh-scan number stored buffer hp hb in
-          read-afresh lim number (afterAll number (atScan number stored buffer) rs) (edited stored rs)
+          read-afresh number (afterAll number (atScan number stored buffer) rs) (edited stored rs)
           (fresh-after-all number rs (atScan number stored buffer) f)
           (stored-after-all number rs (atScan number stored buffer) f);
       others = one-sector;

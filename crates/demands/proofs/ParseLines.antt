@@ -12,6 +12,7 @@ use Rattle.lists.specs.Pieces.{each, keep}
 use Rattle.lists.proofs.Booleans.{and-yes, and-no-left, and-no-right}
 use Rattle.lists.proofs.Picks.{pick-case, never-both}
 use Rattle.answers.specs.Answers.{reasonNumber, numberOf, valuesOf, isAccepted}
+use Rattle.answers.specs.Settings.{limitFits}
 use Rattle.answers.specs.declared.kinds.Reason.the-variants.{CountBelowFour, FewerThanEightLive, Unconfirmed}
 use Rattle.answers.specs.declared.notices.WarningKind.{WarningKind}
 use Rattle.answers.specs.declared.notices.WarningKind.the-variants as warning
@@ -43,6 +44,7 @@ pub record HasParse (lines : List Line) (lim number : ℕ) (plain : List ℕ) : 
   pub ten : Has lines 10 (number ∷ foundIn (preludeAt lim plain) ∷ rowCount plain ∷ stopIn (preludeAt lim plain) ∷ [])
   pub eleven : Has lines 11 (number ∷ [])
   pub twelve : Has lines 12 (number ∷ offsetAt lim plain ∷ endAt lim plain ∷ [])
+  pub twenty : limitFits lim ≡ false → Has lines 20 (lim ∷ [])
 
 -- what is decided stands in a table; a refusal lists nothing and warns of nothing
 pub record Settles (lines : List Line) (number : ℕ) (d : Decided) : Type 0 where
@@ -168,8 +170,13 @@ module _ (lines : List Line) (lim number : ℕ) (plain : List ℕ) (h : HasParse
   pub decision-settles : (lenient : Bool) → Settles lines number (decisionOf lim plain lenient)
   unfolding decisionOf
   decision-settles lenient =
-      pick-case (Settles lines number) (eqb (length plain) 4096) (insideChecked plain lenient (foundOf lim plain n lenient))
-      (verdictRefused (verdict.WrongLength (length plain))) (λ e. on-inside lenient) (λ e. refused-is (verdict.WrongLength (length plain)) (h .one))
+      let inside : Decided = insideChecked plain lenient (foundOf lim plain n lenient) in
+      let out : Decided = verdictRefused (verdict.LimitOutOfRange lim) in
+      pick-case (Settles lines number) (eqb (length plain) 4096) (pick (limitFits lim) inside out) (verdictRefused (verdict.WrongLength (length plain)))
+      (λ e.
+      pick-case (Settles lines number) (limitFits lim) inside out (λ f. on-inside lenient)
+      (λ f. refused-is (verdict.LimitOutOfRange lim) (h .twenty f)))
+      (λ e. refused-is (verdict.WrongLength (length plain)) (h .one))
 
 -- a refusal has no directory
 refused-nothing : (number : ℕ) (plain : List ℕ) (v : Verdict) → NoDirectory (parsedBy number plain (verdictRefused v))

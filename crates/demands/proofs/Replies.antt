@@ -15,7 +15,6 @@ use Rattle.answers.specs.declared.kinds.Answer.{Answer}
 use Rattle.answers.specs.declared.kinds.Answer.the-variants.{MalformedLine}
 use Rattle.summary.specs.Page.{fitsOf, bytesOf}
 use Rattle.summary.proofs.Sectors.{summary-length}
-use Rattle.slots.specs.Slots.{searchLimit}
 use Rattle.digits.specs.Digits.{spelled}
 use Rattle.frame.specs.Frames.{headSize, isFrame, anchorCount}
 use Rattle.frame.proofs.Frames.{frame-bytes}
@@ -23,7 +22,7 @@ use Rattle.reply.specs.Report.{replyMost, reportBytes, acceptedBytes, lineOf}
 use Rattle.reply.specs.Reply.{frameReport, malformed, replyOf, repliedInto, repliedNumber}
 use Rattle.reply.proofs.Replies.{reply-length, reply-short, reply-room}
 use Rattle.demands.specs.Told.{valuesAt, OneOf}
-use Rattle.demands.specs.Replies.{numberIn, pageIn, decodingIn, answerTo, frameLines, restOf, LinesAnswered}
+use Rattle.demands.specs.Replies.{numberIn, pageIn, limitIn, decodingIn, answerTo, frameLines, restOf, LinesAnswered}
 use Rattle.demands.proofs.AnswerLines.{Gives}
 use Rattle.demands.proofs.Demand1.{decoding-gives}
 
@@ -33,18 +32,19 @@ module _ (line : List ℕ) where
       let n : ℕ = headSize + anchorCount line in
       length-take-le 4096 (drop n (spelled line)) (omega (arith, length-drop n (spelled line), frame-bytes line e))
 
-  decoding-in : isFrame line ≡ true → Gives (frameLines (numberIn line) (pageIn line)) (decodingIn line)
+  decoding-in : isFrame line ≡ true → Gives (frameLines (limitIn line) (numberIn line) (pageIn line)) (decodingIn line)
   unfolding decodingIn valuesAt
   decoding-in e =
       let page : length (pageIn line) ≡ 4096 = page-whole e in
       let long : length (bytesOf (numberIn line) (pageIn line)) ≡ 4080 = summary-length (numberIn line) (pageIn line) page in
-      decoding-gives searchLimit (numberIn line) (pageIn line) (fitsOf (numberIn line) (pageIn line)) (bytesOf (numberIn line) (pageIn line)) _ _ 4096
-      (frameLines (numberIn line) (pageIn line)) refl (λ n. absurd (n page)) (λ n. absurd (n refl long)) refl refl refl refl refl refl
+      decoding-gives (numberIn line) (pageIn line) (fitsOf (numberIn line) (pageIn line)) (bytesOf (numberIn line) (pageIn line)) _ _ 4096
+      (frameLines (limitIn line) (numberIn line) (pageIn line)) refl (λ n. absurd (n page)) (λ n. absurd (n refl long)) refl refl refl refl refl refl
+      (λ f. refl)
 
-  answer-one : OneOf (frameLines (numberIn line) (pageIn line)) (answerTo line)
+  answer-one : OneOf (frameLines (limitIn line) (numberIn line) (pageIn line)) (answerTo line)
   unfolding answerTo valuesAt
   answer-one =
-      pick-case (OneOf (frameLines (numberIn line) (pageIn line))) (isFrame line) (decodingIn line .choice .answer) MalformedLine
+      pick-case (OneOf (frameLines (limitIn line) (numberIn line) (pageIn line))) (isFrame line) (decodingIn line .choice .answer) MalformedLine
       (λ e. record { is = decoding-in e .is }) (λ e. record { is = refl })
 
   abbrev given : Bool → Answer

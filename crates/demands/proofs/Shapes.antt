@@ -16,13 +16,13 @@ use Rattle.page.specs.Trailer.{rowCount}
 use Rattle.page.specs.Integrity.{isUnallocated, integrityOf}
 use Rattle.sector.specs.Scan.{blankFits}
 use Rattle.choice.specs.declared.Choice.{Choice}
-use Rattle.answers.specs.Settings.{keystream}
+use Rattle.answers.specs.Settings.{keystream, limitFits}
 use Rattle.choice.specs.Rules.{refusedOf, choiceOf}
 use Rattle.choice.specs.Supplied.{suppliedOf}
 use Rattle.verdict.specs.declared.Decoding.{Decoding}
 use Rattle.verdict.specs.Sectors.{refitOf}
 use Rattle.verdict.specs.Verdict.{refusedWith, refusal, unallocatedOf, settledOf, verdictBy, verdictOf}
-use Rattle.decode.specs.Decode.{lengthsChecked, decodingOf, suppliedDecodingOf}
+use Rattle.decode.specs.Decode.{entryChecked, decodingOf, suppliedDecodingOf}
 use Rattle.demands.specs.Told.{firstWrong}
 use Rattle.demands.proofs.DecodingCases.{settled-case, verdict-case, checked-case}
 
@@ -47,51 +47,63 @@ module _ (c : Choice) (fits : List Fit) where
       settled-case (Shaped c fits) number fits c lenient ws shaped-refused
       (shaped-refusal (answer.LowConfidenceKeystream number _ _ _) refl) (λ e all. shaped-taken all e)
 
-module _ (lim number : ℕ) (x : Answer) (n : ℕ) (fits : List Fit) (shifted anchors : List ℕ) (o : Options) where
-  pub shaped-verdict : Shaped (choiceOf lim number shifted anchors n o) (refitOf fits shifted) (verdictBy lim number x n fits shifted anchors o)
+module _ (number : ℕ) (x : Answer) (n : ℕ) (fits : List Fit) (shifted anchors : List ℕ) (o : Options) where
+  pub shaped-verdict : Shaped (choiceOf number shifted anchors n o) (refitOf fits shifted) (verdictBy number x n fits shifted anchors o)
   shaped-verdict =
-      let c : Choice = choiceOf lim number shifted anchors n o in
-      verdict-case (Shaped c (refitOf fits shifted)) lim number x n fits shifted anchors o (λ e. shaped-refusal c (refitOf fits shifted) x)
+      let c : Choice = choiceOf number shifted anchors n o in
+      verdict-case (Shaped c (refitOf fits shifted)) number x n fits shifted anchors o (λ e. shaped-refusal c (refitOf fits shifted) x)
       (λ e. shaped-settled c (refitOf fits shifted) number (keystream o))
 
--- the same of a whole decoding; an accepted one of a page that was written has the right lengths
-pub record Whole (stored shifted : List ℕ) (m : ℕ) (c : Choice) (fits : List Fit) (d : Decoding) : Type 0 where
+-- the same of a whole decoding; an accepted one has the right lengths and a limit in its range
+pub record Whole (stored shifted : List ℕ) (m lim : ℕ) (c : Choice) (fits : List Fit) (d : Decoding) : Type 0 where
   pub lengths : isAccepted (d .choice .answer) ≡ true → (length stored ≡ 4096) × ((m ≡ 4096) × (length shifted ≡ 4080))
+  pub limit : isAccepted (d .choice .answer) ≡ true → limitFits lim ≡ true
   pub accepted : isUnallocated stored ≡ false → isAccepted (d .choice .answer) ≡ true → (d .choice ≡ c) × (d .fits ≡ fits)
   pub refused : isAccepted (d .choice .answer) ≡ false → (d .fits ≡ blankFits) × (d .warnings ≡ noWarnings)
 
-module _ (stored shifted : List ℕ) (m : ℕ) (c : Choice) (fits : List Fit) where
-  whole-refusal : (x : Answer) → isAccepted x ≡ false → Whole stored shifted m c fits (refusal x)
+module _ (stored shifted : List ℕ) (m lim : ℕ) (c : Choice) (fits : List Fit) where
+  whole-refusal : (x : Answer) → isAccepted x ≡ false → Whole stored shifted m lim c fits (refusal x)
   unfolding refusedOf
   whole-refusal x e =
-      record { lengths = λ h. absurd (never-both e h); accepted = λ z h. absurd (never-both e h); refused = λ h. (refl, refl) }
+      record {
+        lengths = λ h. absurd (never-both e h);
+        limit = λ h. absurd (never-both e h);
+        accepted = λ z h. absurd (never-both e h);
+        refused = λ h. (refl, refl);
+      }
 
-  pub whole-checked : (d : Decoding) → Shaped c fits d → Whole stored shifted m c fits (lengthsChecked stored shifted m d)
+  pub whole-checked : (d : Decoding) → Shaped c fits d → Whole stored shifted m lim c fits (entryChecked stored shifted m lim d)
   unfolding unallocatedOf
   whole-checked d s =
-      checked-case (Whole stored shifted m c fits) stored shifted m d (λ e. whole-refusal (answer.WrongPageLength (length stored)) refl)
+      checked-case (Whole stored shifted m lim c fits) stored shifted m lim d (λ e. whole-refusal (answer.WrongPageLength (length stored)) refl)
       (λ e. whole-refusal (answer.WrongBufferLength (firstWrong m (length shifted))) refl)
-      (λ l k j z.
-      record { lengths = λ h. (l, (k, j)); accepted = λ n h. absurd (never-both n z); refused = λ h. absurd (never-both h refl) })
-      (λ l k j. record { lengths = λ h. (l, (k, j)); accepted = λ z h. s .accepted h; refused = s .refused })
+      (λ f. whole-refusal (answer.LimitOutOfRange lim) refl)
+      (λ l k j f z.
+      record {
+        lengths = λ h. (l, (k, j));
+        limit = λ h. f;
+        accepted = λ n h. absurd (never-both n z);
+        refused = λ h. absurd (never-both h refl);
+      })
+      (λ l k j f. record { lengths = λ h. (l, (k, j)); limit = λ h. f; accepted = λ z h. s .accepted h; refused = s .refused })
 
-module _ (lim number : ℕ) (stored : List ℕ) (fits : List Fit) (shifted : List ℕ) (o : Options) (m : ℕ) where
+module _ (number : ℕ) (stored : List ℕ) (fits : List Fit) (shifted : List ℕ) (o : Options) (m : ℕ) where
   pub decoding-whole :
       (anchors : List ℕ)
-      → Whole stored shifted m (choiceOf lim number shifted anchors (rowCount stored) o) (refitOf fits shifted)
-      (decodingOf lim number stored fits shifted anchors o m)
+      → Whole stored shifted m (o .«search_limit») (choiceOf number shifted anchors (rowCount stored) o) (refitOf fits shifted)
+      (decodingOf number stored fits shifted anchors o m)
   unfolding decodingOf verdictOf
   decoding-whole anchors =
-      whole-checked stored shifted m (choiceOf lim number shifted anchors (rowCount stored) o) (refitOf fits shifted)
-      (verdictOf lim number stored fits shifted anchors o)
-      (shaped-verdict lim number (integrityOf number stored) (rowCount stored) fits shifted anchors o)
+      whole-checked stored shifted m (o .«search_limit») (choiceOf number shifted anchors (rowCount stored) o) (refitOf fits shifted)
+      (verdictOf number stored fits shifted anchors o)
+      (shaped-verdict number (integrityOf number stored) (rowCount stored) fits shifted anchors o)
 
   pub supplied-whole :
       (bv : ℕ)
-      → Whole stored shifted m (suppliedOf lim number bv shifted (rowCount stored) o) (refitOf fits shifted)
-      (suppliedDecodingOf lim number bv stored fits shifted o m)
+      → Whole stored shifted m (o .«search_limit») (suppliedOf number bv shifted (rowCount stored) o) (refitOf fits shifted)
+      (suppliedDecodingOf number bv stored fits shifted o m)
   unfolding suppliedDecodingOf
   supplied-whole bv =
-      let c : Choice = suppliedOf lim number bv shifted (rowCount stored) o in
-      whole-checked stored shifted m c (refitOf fits shifted) (settledOf number (keystream o) (refitOf fits shifted) c noWarnings)
+      let c : Choice = suppliedOf number bv shifted (rowCount stored) o in
+      whole-checked stored shifted m (o .«search_limit») c (refitOf fits shifted) (settledOf number (keystream o) (refitOf fits shifted) c noWarnings)
       (shaped-settled c (refitOf fits shifted) number (keystream o) noWarnings)

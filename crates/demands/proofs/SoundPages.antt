@@ -8,7 +8,7 @@ use borrow.Author.Tests.{eq-eqb}
 use lib.ListN.{length}
 use Rattle.lists.proofs.Least.{least-none}
 use Rattle.answers.specs.Answers.{isAccepted}
-use Rattle.answers.specs.Settings.{keystream}
+use Rattle.answers.specs.Settings.{keystream, limitFits}
 use Rattle.answers.specs.Warns.{noWarnings}
 use Rattle.answers.specs.declared.kinds.Answer.{Answer}
 use Rattle.answers.specs.declared.notices.WarningKind.{WarningKind}
@@ -26,7 +26,7 @@ use Rattle.choice.specs.Rules.{choiceOf}
 use Rattle.verdict.specs.Sectors.{entry, refitOf, firstWeak, sectorWarnings}
 use Rattle.verdict.specs.Verdict.{warningNoted, settledOf, integrityRefuses, integrityWarning, verdictOf}
 use Rattle.verdict.proofs.DecisionCases.{sectors-sure, settled-taken, settled-lenient, verdict-settled}
-use Rattle.decode.specs.Decode.{lengthsAnswer, lengthsChecked, decodingOf}
+use Rattle.decode.specs.Decode.{entryAnswer, entryChecked, decodingOf}
 use Rattle.demands.specs.Demand2.{readPage}
 use Rattle.demands.specs.Accepted.{GoodPage, Confident}
 use Rattle.demands.proofs.StoredBytes.{refit-fresh}
@@ -59,13 +59,14 @@ module _ (number : ℕ) (fits : List Fit) (sure : Confident fits) where
 
 -- ---- the page
 
-module _ (lim number : ℕ) (stored anchors : List ℕ) (o : Options) (sound : GoodPage number stored) where
+module _ (number : ℕ) (stored anchors : List ℕ) (o : Options) (sound : GoodPage number stored) (fits : limitFits (o .«search_limit») ≡ true) where
   abbrev c : Choice
-  c = choiceOf lim number (bytesOf number stored) anchors (rowCount stored) o
+  c = choiceOf number (bytesOf number stored) anchors (rowCount stored) o
 
-  lengths-pass : isAccepted (lengthsAnswer (length stored) 4096 (length (bytesOf number stored))) ≡ true
-  unfolding lengthsAnswer
-  lengths-pass = rw (eq-eqb (length stored) 4096 (sound .whole), eq-eqb (length (bytesOf number stored)) 4080 (summary-length number stored (sound .whole)))
+  entry-passes : isAccepted (entryAnswer (length stored) 4096 (length (bytesOf number stored)) (o .«search_limit»)) ≡ true
+  unfolding entryAnswer
+  entry-passes =
+      rw (eq-eqb (length stored) 4096 (sound .whole), eq-eqb (length (bytesOf number stored)) 4080 (summary-length number stored (sound .whole)), fits)
 
   not-refused : (x : Answer) → isAccepted x ≡ true → integrityRefuses x o ≡ false
   not-refused x e = rw e
@@ -73,12 +74,12 @@ module _ (lim number : ℕ) (stored anchors : List ℕ) (o : Options) (sound : G
   not-warned : (x : Answer) → isAccepted x ≡ true → warningNoted number (integrityWarning x) noWarnings ≡ noWarnings
   not-warned x e = rw e
 
-  pub page-settled : readPage lim number stored anchors o 4096 ≡ settledOf number (keystream o) (fitsOf number stored) c noWarnings
-  unfolding decodingOf lengthsChecked verdictOf
+  pub page-settled : readPage number stored anchors o 4096 ≡ settledOf number (keystream o) (fitsOf number stored) c noWarnings
+  unfolding decodingOf entryChecked verdictOf
   page-settled =
       let x : Answer = integrityOf number stored in
-      rw (lengths-pass, sound .written)
-      (verdict-settled lim number x (rowCount stored) (fitsOf number stored) (bytesOf number stored) anchors o (not-refused x (sound .intact))
+      rw (entry-passes, sound .written)
+      (verdict-settled number x (rowCount stored) (fitsOf number stored) (bytesOf number stored) anchors o (not-refused x (sound .intact))
       ∙ ap (λ (w : Warnings). settledOf number (keystream o) (refitOf (fitsOf number stored) (bytesOf number stored)) c w) (not-warned x (sound .intact))
       ∙ ap (λ (f : List Fit). settledOf number (keystream o) f c noWarnings) (refit-fresh number stored (sound .whole)))
 
@@ -88,7 +89,7 @@ module _ (lim number : ℕ) (stored anchors : List ℕ) (o : Options) (sound : G
 
     pub page-sure :
         Confident (fitsOf number stored)
-        → readPage lim number stored anchors o 4096 ≡ record { choice = c; fits = fitsOf number stored; warnings = noWarnings }
+        → readPage number stored anchors o 4096 ≡ record { choice = c; fits = fitsOf number stored; warnings = noWarnings }
     page-sure sure =
         page-settled
         ∙ settled-sure number (fitsOf number stored) sure (keystream o) c noWarnings good
@@ -96,7 +97,7 @@ module _ (lim number : ℕ) (stored anchors : List ℕ) (o : Options) (sound : G
 
     pub page-lenient :
         keystream o ≡ true
-        → readPage lim number stored anchors o 4096
+        → readPage number stored anchors o 4096
         ≡ record { choice = c; fits = fitsOf number stored; warnings = sectorWarnings number (fitsOf number stored) noWarnings 8 }
     page-lenient l =
         page-settled

@@ -30,7 +30,7 @@ use Rattle.verdict.specs.declared.Decoding.{Decoding}
 use Rattle.verdict.specs.Sectors.{entry, refitOf, firstWeak, sectorWarnings}
 use Rattle.verdict.specs.Verdict.{refusedWith, refusal, warningNoted, sectorsDecide, settledOf, integrityRefuses, integrityWarning, verdictBy, verdictOf}
 use Rattle.verdict.proofs.DecisionCases.{refuses-refused}
-use Rattle.decode.specs.Decode.{lengthsChecked, decodingOf, suppliedDecodingOf}
+use Rattle.decode.specs.Decode.{entryChecked, decodingOf, suppliedDecodingOf}
 use Rattle.demands.specs.Warned.{warningsAfter, warns, inDoubt, Warned}
 use Rattle.demands.proofs.DecodingCases.{checked-case}
 
@@ -85,47 +85,48 @@ module _ (number : ℕ) (o : Options) (ws : Warnings) where
       (λ e h. absurd (never-both e h))
 
   checked-warned :
-      (stored shifted : List ℕ) (m : ℕ) (d : Decoding)
+      (stored shifted : List ℕ) (m lim : ℕ) (d : Decoding)
       → isUnallocated stored ≡ false
       → Right d
-      → Right (lengthsChecked stored shifted m d)
+      → Right (entryChecked stored shifted m lim d)
   unfolding Right refusedOf
-  checked-warned stored shifted m d used r =
-      checked-case Right stored shifted m d
+  checked-warned stored shifted m lim d used r =
+      checked-case Right stored shifted m lim d
       (λ e h. absurd (never-both refl h))
       (λ e h. absurd (never-both refl h))
-      (λ l k j z. absurd (never-both used z))
-      (λ l k j. r)
+      (λ e h. absurd (never-both refl h))
+      (λ l k j f z. absurd (never-both used z))
+      (λ l k j f. r)
 
 verdict-warned :
-    (lim number : ℕ) (x : Answer) (n : ℕ) (fits : List Fit) (shifted anchors : List ℕ) (o : Options)
-    → Right number o (warningNoted number (integrityWarning x) noWarnings) (verdictBy lim number x n fits shifted anchors o)
+    (number : ℕ) (x : Answer) (n : ℕ) (fits : List Fit) (shifted anchors : List ℕ) (o : Options)
+    → Right number o (warningNoted number (integrityWarning x) noWarnings) (verdictBy number x n fits shifted anchors o)
 unfolding verdictBy Right refusedOf
-verdict-warned lim number x n fits shifted anchors o =
+verdict-warned number x n fits shifted anchors o =
     let ws : Warnings = warningNoted number (integrityWarning x) noWarnings in
-    let c : Choice = choiceOf lim number shifted anchors n o in
+    let c : Choice = choiceOf number shifted anchors n o in
     pick-case (Right number o ws) (integrityRefuses x o) (refusal x) (settledOf number (keystream o) (refitOf fits shifted) c ws)
     (λ e h. absurd (never-both (refuses-refused x o e) h))
     (λ e. settled-warned number o ws (refitOf fits shifted) c)
 
 decoding-warned :
-    (lim number : ℕ) (stored : List ℕ) (fits : List Fit) (shifted anchors : List ℕ) (o : Options) (m : ℕ)
+    (number : ℕ) (stored : List ℕ) (fits : List Fit) (shifted anchors : List ℕ) (o : Options) (m : ℕ)
     → isUnallocated stored ≡ false
-    → Right number o (warningNoted number (integrityWarning (integrityOf number stored)) noWarnings) (decodingOf lim number stored fits shifted anchors o m)
+    → Right number o (warningNoted number (integrityWarning (integrityOf number stored)) noWarnings) (decodingOf number stored fits shifted anchors o m)
 unfolding decodingOf verdictOf
-decoding-warned lim number stored fits shifted anchors o m used =
-    checked-warned number o (warningNoted number (integrityWarning (integrityOf number stored)) noWarnings) stored shifted m
-    (verdictBy lim number (integrityOf number stored) (rowCount stored) fits shifted anchors o) used
-    (verdict-warned lim number (integrityOf number stored) (rowCount stored) fits shifted anchors o)
+decoding-warned number stored fits shifted anchors o m used =
+    checked-warned number o (warningNoted number (integrityWarning (integrityOf number stored)) noWarnings) stored shifted m (o .«search_limit»)
+    (verdictBy number (integrityOf number stored) (rowCount stored) fits shifted anchors o) used
+    (verdict-warned number (integrityOf number stored) (rowCount stored) fits shifted anchors o)
 
 supplied-warned :
-    (lim number bv : ℕ) (stored : List ℕ) (fits : List Fit) (shifted : List ℕ) (o : Options) (m : ℕ)
+    (number bv : ℕ) (stored : List ℕ) (fits : List Fit) (shifted : List ℕ) (o : Options) (m : ℕ)
     → isUnallocated stored ≡ false
-    → Right number o noWarnings (suppliedDecodingOf lim number bv stored fits shifted o m)
+    → Right number o noWarnings (suppliedDecodingOf number bv stored fits shifted o m)
 unfolding suppliedDecodingOf
-supplied-warned lim number bv stored fits shifted o m used =
-    let c : Choice = suppliedOf lim number bv shifted (rowCount stored) o in
-    checked-warned number o noWarnings stored shifted m (settledOf number (keystream o) (refitOf fits shifted) c noWarnings) used
+supplied-warned number bv stored fits shifted o m used =
+    let c : Choice = suppliedOf number bv shifted (rowCount stored) o in
+    checked-warned number o noWarnings stored shifted m (o .«search_limit») (settledOf number (keystream o) (refitOf fits shifted) c noWarnings) used
     (settled-warned number o noWarnings (refitOf fits shifted) c)
 
 every-place :

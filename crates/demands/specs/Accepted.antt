@@ -6,7 +6,7 @@ use mathlib.Core.List.{List}
 use lib.ListN.{length}
 use Rattle.lists.specs.Bytes.{byteAt}
 use Rattle.answers.specs.Answers.{isAccepted}
-use Rattle.answers.specs.Settings.{keystream}
+use Rattle.answers.specs.Settings.{keystream, limitFits}
 use Rattle.answers.specs.Warns.{noWarnings}
 use Rattle.answers.specs.declared.kinds.Answer.the-variants as answer
 use Rattle.answers.specs.declared.notices.Warnings.{Warnings}
@@ -62,27 +62,30 @@ pub record Keyed (number : ℕ) (stored : List ℕ) (bv : ℕ) : Type 0 where
 pub record Accepts : Type 0 where
   -- the scan finds the bv that such a page was written with
   pub keyed : (number : ℕ) (stored : List ℕ) (bv : ℕ) → length stored ≡ 4096 → Keyed number stored bv → OneValue number stored bv
-  -- eight exact sectors with one value, and row count 0: calibrated, whatever the anchors and the options
+  -- eight exact sectors with one value, and row count 0: calibrated, whatever the anchors and the options, at every search limit that is one
   pub exact :
-      (lim number : ℕ) (stored anchors : List ℕ) (o : Options) (bv : ℕ)
+      (number : ℕ) (stored anchors : List ℕ) (o : Options) (bv : ℕ)
       → GoodPage number stored
+      → limitFits (o .«search_limit») ≡ true
       → rowCount stored ≡ 0
       → OneValue number stored bv
-      → ReadAs (readPage lim number stored anchors o 4096) bv source.ExactSectors confidence.Calibrated noWarnings
+      → ReadAs (readPage number stored anchors o 4096) bv source.ExactSectors confidence.Calibrated noWarnings
   -- a verified candidate without a rival, where no other is verified and every sector is confident
   pub verified :
-      (lim number : ℕ) (stored anchors : List ℕ) (o : Options) (bv : ℕ)
+      (number : ℕ) (stored anchors : List ℕ) (o : Options) (bv : ℕ)
       → GoodPage number stored
+      → limitFits (o .«search_limit») ≡ true
       → Confident (fitsOf number stored)
       → candidateNumber (bytesOf number stored) ≤ 8
-      → SoleVerified lim (bytesOf number stored) anchors (rowCount stored) (o .«min_trailer_count») bv
-      → ReadAs (readPage lim number stored anchors o 4096) bv source.TrailerRowCount confidence.Verified noWarnings
+      → SoleVerified (o .«search_limit») (bytesOf number stored) anchors (rowCount stored) (o .«min_trailer_count») bv
+      → ReadAs (readPage number stored anchors o 4096) bv source.TrailerRowCount confidence.Verified noWarnings
   -- the same under KEYSTREAM, with a warning for each sector that is not confident
   pub let-through :
-      (lim number : ℕ) (stored anchors : List ℕ) (o : Options) (bv : ℕ)
+      (number : ℕ) (stored anchors : List ℕ) (o : Options) (bv : ℕ)
       → GoodPage number stored
+      → limitFits (o .«search_limit») ≡ true
       → keystream o ≡ true
       → candidateNumber (bytesOf number stored) ≤ 8
-      → SoleVerified lim (bytesOf number stored) anchors (rowCount stored) (o .«min_trailer_count») bv
-      → ReadAs (readPage lim number stored anchors o 4096) bv source.TrailerRowCount confidence.Verified
+      → SoleVerified (o .«search_limit») (bytesOf number stored) anchors (rowCount stored) (o .«min_trailer_count») bv
+      → ReadAs (readPage number stored anchors o 4096) bv source.TrailerRowCount confidence.Verified
       (sectorWarnings number (fitsOf number stored) noWarnings 8)

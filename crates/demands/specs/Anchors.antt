@@ -22,19 +22,19 @@ pub record SameCandidates (shifted a b : List ℕ) : Type 0 where
 
 pub record AnchorsAreASet : Type 0 where
   pub choice :
-      (lim number : ℕ) (shifted a b : List ℕ) (n : ℕ) (o : Options)
+      (number : ℕ) (shifted a b : List ℕ) (n : ℕ) (o : Options)
       → SameCandidates shifted a b
-      → choiceOf lim number shifted a n o ≡ choiceOf lim number shifted b n o
+      → choiceOf number shifted a n o ≡ choiceOf number shifted b n o
   -- from any summary
   pub decoding :
-      (lim number : ℕ) (stored : List ℕ) (fits : List Fit) (shifted a b : List ℕ) (o : Options) (m : ℕ)
+      (number : ℕ) (stored : List ℕ) (fits : List Fit) (shifted a b : List ℕ) (o : Options) (m : ℕ)
       → SameCandidates shifted a b
-      → decodingOf lim number stored fits shifted a o m ≡ decodingOf lim number stored fits shifted b o m
+      → decodingOf number stored fits shifted a o m ≡ decodingOf number stored fits shifted b o m
   -- by its own scan
   pub read :
-      (lim number : ℕ) (stored a b : List ℕ) (o : Options) (m : ℕ)
+      (number : ℕ) (stored a b : List ℕ) (o : Options) (m : ℕ)
       → SameCandidates (bytesOf number stored) a b
-      → readPage lim number stored a o m ≡ readPage lim number stored b o m
+      → readPage number stored a o m ≡ readPage number stored b o m
   -- lists with the same members have the same candidates of any page, and these have the same members
   pub members : (shifted a b : List ℕ) → SameMembers a b → SameCandidates shifted a b
   pub order : (a b : List ℕ) → SameMembers (a ++ b) (b ++ a)

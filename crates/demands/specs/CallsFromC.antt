@@ -14,7 +14,6 @@ use Rattle.page.specs.Integrity.{integrityOf}
 use Rattle.page.specs.Superblock.{superblockAnswer, checkedSuperblock}
 use Rattle.summary.specs.Page.{pageScanOf}
 use Rattle.summary.specs.Replace.{replaceAnswer}
-use Rattle.slots.specs.Slots.{searchLimit}
 use Rattle.slotted.specs.Parses.{parsedOf}
 use Rattle.rows.specs.RowAnswers.{rowAnswerOf}
 use Rattle.verdict.specs.declared.Decoding.{Decoding}
@@ -76,18 +75,18 @@ pub record CallsAnswered : Type 0 where
       → ToldInC lent decodingSize (d .choice .answer) answer answerAtExit r
       × Keeps lent decodingSize (d .choice .answer) answer out outAtExit
   pub parse :
-      (number : ℕ) (plain : List ℕ) (leniency : ℕ) (answer answerAtExit : List ℕ) (r : ℕ)
-      → Wrote answer 0 (parseTold number plain leniency) answerAtExit r
-      → ToldInC true parseSize (parsedOf searchLimit number plain (hasDirectory leniency) .answer) answer answerAtExit r
+      (number : ℕ) (plain : List ℕ) (leniency limit : ℕ) (answer answerAtExit : List ℕ) (r : ℕ)
+      → Wrote answer 0 (parseTold number plain leniency limit) answerAtExit r
+      → ToldInC true parseSize (parsedOf limit number plain (hasDirectory leniency) .answer) answer answerAtExit r
   pub row-count :
-      (number : ℕ) (plain : List ℕ) (leniency : ℕ) (answer answerAtExit : List ℕ) (r : ℕ)
-      → Wrote answer 0 (rowCountTold number plain leniency) answerAtExit r
-      → ToldInC true rowCountSize (parsedOf searchLimit number plain (hasDirectory leniency) .answer) answer answerAtExit r
+      (number : ℕ) (plain : List ℕ) (leniency limit : ℕ) (answer answerAtExit : List ℕ) (r : ℕ)
+      → Wrote answer 0 (rowCountTold number plain leniency limit) answerAtExit r
+      → ToldInC true rowCountSize (parsedOf limit number plain (hasDirectory leniency) .answer) answer answerAtExit r
   pub row :
-      (number : ℕ) (plain : List ℕ) (leniency k : ℕ) (answer answerAtExit : List ℕ) (r : ℕ)
-      → Wrote answer 0 (rowTold number plain leniency k) answerAtExit r
-      → ToldInC true rowSize (rowAnswerOf searchLimit number plain (hasDirectory leniency) k) answer answerAtExit r
+      (number : ℕ) (plain : List ℕ) (leniency limit k : ℕ) (answer answerAtExit : List ℕ) (r : ℕ)
+      → Wrote answer 0 (rowTold number plain leniency limit k) answerAtExit r
+      → ToldInC true rowSize (rowAnswerOf limit number plain (hasDirectory leniency) k) answer answerAtExit r
   pub rows :
-      (number : ℕ) (plain : List ℕ) (leniency : ℕ) (answer answerAtExit : List ℕ) (r : ℕ)
-      → Wrote answer 0 (rowsTold number plain leniency) answerAtExit r
-      → ToldInC true rowsSize (parsedOf searchLimit number plain (hasDirectory leniency) .answer) answer answerAtExit r
+      (number : ℕ) (plain : List ℕ) (leniency limit : ℕ) (answer answerAtExit : List ℕ) (r : ℕ)
+      → Wrote answer 0 (rowsTold number plain leniency limit) answerAtExit r
+      → ToldInC true rowsSize (parsedOf limit number plain (hasDirectory leniency) .answer) answer answerAtExit r

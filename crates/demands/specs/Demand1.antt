@@ -67,30 +67,30 @@ pub record Answered : Type 0 where
       → OneOf (parseLines lim number plain) (rowsCountedOf lim number plain lenient .answer)
   -- `choose_bv`, `supplied_bv`
   pub choice :
-      (lim number : ℕ) (shifted anchors : List ℕ) (n : ℕ) (o : Options)
-      → OneOf (choiceLines number shifted) (choiceOf lim number shifted anchors n o .answer)
+      (number : ℕ) (shifted anchors : List ℕ) (n : ℕ) (o : Options)
+      → OneOf (choiceLines (o .«search_limit») number shifted) (choiceOf number shifted anchors n o .answer)
   pub support :
-      (lim number bv : ℕ) (shifted : List ℕ) (n : ℕ) (o : Options)
-      → OneOf (supportLines number bv shifted) (suppliedOf lim number bv shifted n o .answer)
+      (number bv : ℕ) (shifted : List ℕ) (n : ℕ) (o : Options)
+      → OneOf (supportLines (o .«search_limit») number bv shifted) (suppliedOf number bv shifted n o .answer)
   -- `decide` and `decide_supplied` of `verdict`: what was found of the page's integrity is passed on where it refuses
   pub verdict :
-      (lim number : ℕ) (x : Answer) (n : ℕ) (fits : List Fit) (shifted anchors : List ℕ) (o : Options)
+      (number : ℕ) (x : Answer) (n : ℕ) (fits : List Fit) (shifted anchors : List ℕ) (o : Options)
       → integrityRefuses x o ≡ false
-      → OneOf (verdictLines number fits shifted) (verdictBy lim number x n fits shifted anchors o .choice .answer)
+      → OneOf (verdictLines (o .«search_limit») number fits shifted) (verdictBy number x n fits shifted anchors o .choice .answer)
   pub passed-on :
-      (lim number : ℕ) (x : Answer) (n : ℕ) (fits : List Fit) (shifted anchors : List ℕ) (o : Options)
+      (number : ℕ) (x : Answer) (n : ℕ) (fits : List Fit) (shifted anchors : List ℕ) (o : Options)
       → integrityRefuses x o ≡ true
-      → verdictBy lim number x n fits shifted anchors o ≡ refusal x
+      → verdictBy number x n fits shifted anchors o ≡ refusal x
   pub supplied-verdict :
-      (lim number bv n : ℕ) (fits : List Fit) (shifted : List ℕ) (o : Options)
-      → OneOf (suppliedVerdictLines number bv fits shifted) (suppliedVerdict lim number bv n fits shifted o .choice .answer)
+      (number bv n : ℕ) (fits : List Fit) (shifted : List ℕ) (o : Options)
+      → OneOf (suppliedVerdictLines (o .«search_limit») number bv fits shifted) (suppliedVerdict number bv n fits shifted o .choice .answer)
   -- `decode_page` and `decode_summary`, `decode_with_bv` and `decode_summary_with_bv`
   pub decoding :
-      (lim number : ℕ) (stored : List ℕ) (fits : List Fit) (shifted anchors : List ℕ) (o : Options) (m : ℕ)
-      → OneOf (decodingLines number stored fits shifted m) (decodingOf lim number stored fits shifted anchors o m .choice .answer)
+      (number : ℕ) (stored : List ℕ) (fits : List Fit) (shifted anchors : List ℕ) (o : Options) (m : ℕ)
+      → OneOf (decodingLines (o .«search_limit») number stored fits shifted m) (decodingOf number stored fits shifted anchors o m .choice .answer)
   pub supplied :
-      (lim number bv : ℕ) (stored : List ℕ) (fits : List Fit) (shifted : List ℕ) (o : Options) (m : ℕ)
-      → OneOf (suppliedLines number bv stored fits shifted m) (suppliedDecodingOf lim number bv stored fits shifted o m .choice .answer)
+      (number bv : ℕ) (stored : List ℕ) (fits : List Fit) (shifted : List ℕ) (o : Options) (m : ℕ)
+      → OneOf (suppliedLines (o .«search_limit») number bv stored fits shifted m) (suppliedDecodingOf number bv stored fits shifted o m .choice .answer)
 
 -- ---- refusals
 
@@ -159,26 +159,26 @@ pub record Refused : Type 0 where
       → isAccepted (rowsCountedOf lim number plain lenient .answer) ≡ false
       → startsIn (rowsOf lim plain lenient) starts ≡ starts
   pub choice :
-      (lim number : ℕ) (shifted anchors : List ℕ) (n : ℕ) (o : Options)
-      → isAccepted (choiceOf lim number shifted anchors n o .answer) ≡ false
-      → NothingTaken (choiceOf lim number shifted anchors n o)
+      (number : ℕ) (shifted anchors : List ℕ) (n : ℕ) (o : Options)
+      → isAccepted (choiceOf number shifted anchors n o .answer) ≡ false
+      → NothingTaken (choiceOf number shifted anchors n o)
   pub support :
-      (lim number bv : ℕ) (shifted : List ℕ) (n : ℕ) (o : Options)
-      → isAccepted (suppliedOf lim number bv shifted n o .answer) ≡ false
-      → NothingTaken (suppliedOf lim number bv shifted n o)
+      (number bv : ℕ) (shifted : List ℕ) (n : ℕ) (o : Options)
+      → isAccepted (suppliedOf number bv shifted n o .answer) ≡ false
+      → NothingTaken (suppliedOf number bv shifted n o)
   pub verdict :
-      (lim number : ℕ) (x : Answer) (n : ℕ) (fits : List Fit) (shifted anchors : List ℕ) (o : Options)
-      → isAccepted (verdictBy lim number x n fits shifted anchors o .choice .answer) ≡ false
-      → Silent (verdictBy lim number x n fits shifted anchors o)
+      (number : ℕ) (x : Answer) (n : ℕ) (fits : List Fit) (shifted anchors : List ℕ) (o : Options)
+      → isAccepted (verdictBy number x n fits shifted anchors o .choice .answer) ≡ false
+      → Silent (verdictBy number x n fits shifted anchors o)
   pub supplied-verdict :
-      (lim number bv n : ℕ) (fits : List Fit) (shifted : List ℕ) (o : Options)
-      → isAccepted (suppliedVerdict lim number bv n fits shifted o .choice .answer) ≡ false
-      → Silent (suppliedVerdict lim number bv n fits shifted o)
+      (number bv n : ℕ) (fits : List Fit) (shifted : List ℕ) (o : Options)
+      → isAccepted (suppliedVerdict number bv n fits shifted o .choice .answer) ≡ false
+      → Silent (suppliedVerdict number bv n fits shifted o)
   pub decoding :
-      (lim number : ℕ) (stored : List ℕ) (fits : List Fit) (shifted anchors : List ℕ) (o : Options) (m : ℕ)
-      → isAccepted (decodingOf lim number stored fits shifted anchors o m .choice .answer) ≡ false
-      → Silent (decodingOf lim number stored fits shifted anchors o m)
+      (number : ℕ) (stored : List ℕ) (fits : List Fit) (shifted anchors : List ℕ) (o : Options) (m : ℕ)
+      → isAccepted (decodingOf number stored fits shifted anchors o m .choice .answer) ≡ false
+      → Silent (decodingOf number stored fits shifted anchors o m)
   pub supplied :
-      (lim number bv : ℕ) (stored : List ℕ) (fits : List Fit) (shifted : List ℕ) (o : Options) (m : ℕ)
-      → isAccepted (suppliedDecodingOf lim number bv stored fits shifted o m .choice .answer) ≡ false
-      → Silent (suppliedDecodingOf lim number bv stored fits shifted o m)
+      (number bv : ℕ) (stored : List ℕ) (fits : List Fit) (shifted : List ℕ) (o : Options) (m : ℕ)
+      → isAccepted (suppliedDecodingOf number bv stored fits shifted o m .choice .answer) ≡ false
+      → Silent (suppliedDecodingOf number bv stored fits shifted o m)

@@ -35,11 +35,11 @@ use Rattle.verdict.specs.Sectors.{entry}
 use Rattle.decode.specs.Decode.{decodingOf, suppliedDecodingOf, writtenOf}
 
 -- a page read by its own scan: what `decode_page` and `decode_with_bv` answer, and what they leave in out
-abbrev pub readPage : ℕ → ℕ → List ℕ → List ℕ → Options → ℕ → Decoding
-readPage lim number stored anchors o m = decodingOf lim number stored (fitsOf number stored) (bytesOf number stored) anchors o m
+abbrev pub readPage : ℕ → List ℕ → List ℕ → Options → ℕ → Decoding
+readPage number stored anchors o m = decodingOf number stored (fitsOf number stored) (bytesOf number stored) anchors o m
 
-abbrev pub readWith : ℕ → ℕ → ℕ → List ℕ → Options → ℕ → Decoding
-readWith lim number bv stored o m = suppliedDecodingOf lim number bv stored (fitsOf number stored) (bytesOf number stored) o m
+abbrev pub readWith : ℕ → ℕ → List ℕ → Options → ℕ → Decoding
+readWith number bv stored o m = suppliedDecodingOf number bv stored (fitsOf number stored) (bytesOf number stored) o m
 
 abbrev pub leftIn : List ℕ → ℕ → List ℕ → Decoding → List ℕ
 leftIn out number stored d = writtenOf d stored (bytesOf number stored) out
@@ -79,30 +79,29 @@ lastOf g = getD (g .items) (g .len - 1) (record { evidence = evidence.Nothing })
 -- the choice is the rules', for the page's own shifted bytes, so that it means what `meanings` says of it; a page whose bv comes from its row count passes
 -- the row-count test as it was written; the last evidence is the number of data bytes written that are zero, with its lead over the best of the other
 -- candidates
-pub record Evident (lim number : ℕ) (stored anchors : List ℕ) (o : Options) (d : Decoding) (written : List ℕ) : Type 0 where
-  pub choice : d .choice ≡ choiceOf lim number (bytesOf number stored) anchors (rowCount stored) o
+pub record Evident (number : ℕ) (stored anchors : List ℕ) (o : Options) (d : Decoding) (written : List ℕ) : Type 0 where
+  pub choice : d .choice ≡ choiceOf number (bytesOf number stored) anchors (rowCount stored) o
   pub byte : d .choice .bv < 256
   pub passes :
-      lim ≤ 4080
-      → d .choice .source ≡ source.TrailerRowCount
-      → (0 < rowCount written) × (pageMatches lim written (o .«min_trailer_count») ≡ true)
+      d .choice .source ≡ source.TrailerRowCount
+      → (0 < rowCount written) × (pageMatches (o .«search_limit») written (o .«min_trailer_count») ≡ true)
   pub mass :
       let zeros : ℕ = count 0 (take 4080 written) in
-      let a : Assessment = assessmentOf lim (bytesOf number stored) anchors (rowCount stored) (o .«min_trailer_count») in
+      let a : Assessment = assessmentOf (o .«search_limit») (bytesOf number stored) anchors (rowCount stored) (o .«min_trailer_count») in
       lastOf (d .choice .grounds) ≡ evidence.ZeroMass zeros (zeros - mostOf (group (Others (d .choice .bv)) a))
 
 pub record Recovers : Type 0 where
   pub read :
-      (lim number : ℕ) (stored anchors : List ℕ) (o : Options) (out : List ℕ)
+      (number : ℕ) (stored anchors : List ℕ) (o : Options) (out : List ℕ)
       → AllBytes stored
       → isUnallocated stored ≡ false
-      → let d : Decoding = readPage lim number stored anchors o (length out) in
+      → let d : Decoding = readPage number stored anchors o (length out) in
       isAccepted (d .choice .answer) ≡ true
-      → Recovered number stored d (leftIn out number stored d) × Evident lim number stored anchors o d (leftIn out number stored d)
+      → Recovered number stored d (leftIn out number stored d) × Evident number stored anchors o d (leftIn out number stored d)
   pub supplied :
-      (lim number bv : ℕ) (stored : List ℕ) (o : Options) (out : List ℕ)
+      (number bv : ℕ) (stored : List ℕ) (o : Options) (out : List ℕ)
       → AllBytes stored
       → isUnallocated stored ≡ false
-      → let d : Decoding = readWith lim number bv stored o (length out) in
+      → let d : Decoding = readWith number bv stored o (length out) in
       isAccepted (d .choice .answer) ≡ true
-      → Recovered number stored d (leftIn out number stored d) × (d .choice ≡ suppliedOf lim number bv (bytesOf number stored) (rowCount stored) o)
+      → Recovered number stored d (leftIn out number stored d) × (d .choice ≡ suppliedOf number bv (bytesOf number stored) (rowCount stored) o)

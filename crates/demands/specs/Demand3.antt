@@ -25,24 +25,24 @@ edited stored (r ∷ rs) = edited (editedBy stored r) rs
 
 -- ---- the demand
 
--- a kept state t beside a page read afresh, whatever anchors, options, bv and out
-pub record ReadAfresh (lim number : ℕ) (t : State) (stored : List ℕ) : Type 0 where
+-- a kept state t beside a page read afresh, whatever anchors, options, search limit among them, bv and out
+pub record ReadAfresh (number : ℕ) (t : State) (stored : List ℕ) : Type 0 where
   pub page : t .stored ≡ stored
   pub summary : (buffer : List ℕ) → length buffer ≡ 4080 → t ≡ atScan number stored buffer
   pub decoding :
       (anchors : List ℕ) (o : Options) (m : ℕ)
-      → decodingOf lim number (t .stored) (t .fits) (t .shifted) anchors o m ≡ readPage lim number stored anchors o m
+      → decodingOf number (t .stored) (t .fits) (t .shifted) anchors o m ≡ readPage number stored anchors o m
   pub supplied :
       (bv : ℕ) (o : Options) (m : ℕ)
-      → suppliedDecodingOf lim number bv (t .stored) (t .fits) (t .shifted) o m ≡ readWith lim number bv stored o m
+      → suppliedDecodingOf number bv (t .stored) (t .fits) (t .shifted) o m ≡ readWith number bv stored o m
   pub written : (d : Decoding) (out : List ℕ) → writtenOf d (t .stored) (t .shifted) out ≡ leftIn out number stored d
 
 pub record KeptFresh : Type 0 where
   -- after a scan and any replacements under one page number
   pub afresh :
-      (lim number : ℕ) (stored buffer : List ℕ) (rs : List Replacement)
+      (number : ℕ) (stored buffer : List ℕ) (rs : List Replacement)
       → length stored ≡ 4096
       → length buffer ≡ 4080
-      → ReadAfresh lim number (afterAll number (atScan number stored buffer) rs) (edited stored rs)
+      → ReadAfresh number (afterAll number (atScan number stored buffer) rs) (edited stored rs)
   -- on any summary, also another page's
   pub others : (number : ℕ) (t : State) (r : Replacement) → Taken t r → length (t .fits) ≡ 8 → OneSector number r t (after number t r)

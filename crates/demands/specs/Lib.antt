@@ -4,6 +4,7 @@ pub mod Told
 pub mod Demand1
 pub mod Replies
 pub mod CallsFromC
+pub mod Limits
 pub mod Demand2
 pub mod Demand3
 pub mod Accepted

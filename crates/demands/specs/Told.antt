@@ -58,7 +58,7 @@ scanLines n m = 0 returns [] ∷ 1 returns (n ∷ []) ∷ 2 returns (m ∷ []) �
 abbrev pub replacementLines : ℕ → ℕ → ℕ → List Line
 replacementLines s n m = scanLines n m ++ (14 returns (s ∷ []) ∷ [])
 
--- ---- slots and rows of a plain page
+-- ---- slots and rows of a plain page, at the search limit lim. "20, with the limit, if it is outside the range"
 
 -- "8: reason: 1 n from 1 to 3; 2 fewer than 8 live; 3 unconfirmed"
 abbrev pub liveIn : Found → ℕ
@@ -106,25 +106,28 @@ parseLines lim number plain =
     ∷ 10 returns (number ∷ foundIn (preludeAt lim plain) ∷ rowCount plain ∷ stopIn (preludeAt lim plain) ∷ [])
     ∷ 11 returns (number ∷ [])
     ∷ 12 returns (number ∷ offsetAt lim plain ∷ endAt lim plain ∷ [])
+    ∷ 20 returns (lim ∷ [])
     ∷ []
 
 -- "16: row number"
 abbrev pub rowLines : ℕ → ℕ → List ℕ → ℕ → List Line
 rowLines lim number plain r = parseLines lim number plain ++ (16 returns (r ∷ []) ∷ [])
 
--- ---- choices, for the shifted bytes. "5: page, candidates", which stand beside it; "6: page, bv"; "15: page"
+-- ---- choices, for the shifted bytes, at the search limit lim. "5: page, candidates", which stand beside it; "6: page, bv"; "15: page"
 
-abbrev pub choiceLines : ℕ → List ℕ → List Line
-choiceLines number shifted =
+abbrev pub choiceLines : ℕ → ℕ → List ℕ → List Line
+choiceLines lim number shifted =
     0 returns []
     ∷ 2 returns (length shifted ∷ [])
     ∷ 5 returns (number ∷ [])
     ∷ 6 returns (number ∷ topOf (countsOf shifted) ∷ [])
     ∷ 15 returns (number ∷ [])
+    ∷ 20 returns (lim ∷ [])
     ∷ []
 
-abbrev pub supportLines : ℕ → ℕ → List ℕ → List Line
-supportLines number bv shifted = 0 returns [] ∷ 2 returns (length shifted ∷ []) ∷ 6 returns (number ∷ bv ∷ []) ∷ []
+abbrev pub supportLines : ℕ → ℕ → ℕ → List ℕ → List Line
+supportLines lim number bv shifted =
+    0 returns [] ∷ 2 returns (length shifted ∷ []) ∷ 6 returns (number ∷ bv ∷ []) ∷ 20 returns (lim ∷ []) ∷ []
 
 -- ---- decodings
 
@@ -133,27 +136,32 @@ abbrev pub weakValues : ℕ → List Fit → List ℕ
 weakValues number fits = number ∷ firstWeak fits ∷ entry fits (firstWeak fits) .peak ∷ entry fits (firstWeak fits) .«runner_up» ∷ []
 
 -- of a page that was written and whose integrity does not refuse
-abbrev pub verdictLines : ℕ → List Fit → List ℕ → List Line
-verdictLines number fits shifted = 7 returns weakValues number (refitOf fits shifted) ∷ choiceLines number shifted
+abbrev pub verdictLines : ℕ → ℕ → List Fit → List ℕ → List Line
+verdictLines lim number fits shifted = 7 returns weakValues number (refitOf fits shifted) ∷ choiceLines lim number shifted
 
-abbrev pub suppliedVerdictLines : ℕ → ℕ → List Fit → List ℕ → List Line
-suppliedVerdictLines number bv fits shifted = 7 returns weakValues number (refitOf fits shifted) ∷ supportLines number bv shifted
+abbrev pub suppliedVerdictLines : ℕ → ℕ → ℕ → List Fit → List ℕ → List Line
+suppliedVerdictLines lim number bv fits shifted = 7 returns weakValues number (refitOf fits shifted) ∷ supportLines lim number bv shifted
 
 -- "2: out not 4,096, then shifted not 4,080": for an out of m bytes, and k shifted ones
 abbrev pub firstWrong : ℕ → ℕ → ℕ
 firstWrong m k = pick (eqb m 4096) k m
 
-abbrev pub decodingLines : ℕ → List ℕ → List Fit → List ℕ → ℕ → List Line
-decodingLines number stored fits shifted m =
+abbrev pub decodingLines : ℕ → ℕ → List ℕ → List Fit → List ℕ → ℕ → List Line
+decodingLines lim number stored fits shifted m =
     integrityLines number stored
     ++ (2 returns (firstWrong m (length shifted) ∷ [])
     ∷ 5 returns (number ∷ [])
     ∷ 6 returns (number ∷ topOf (countsOf shifted) ∷ [])
     ∷ 7 returns weakValues number (refitOf fits shifted)
     ∷ 15 returns (number ∷ [])
+    ∷ 20 returns (lim ∷ [])
     ∷ [])
 
-abbrev pub suppliedLines : ℕ → ℕ → List ℕ → List Fit → List ℕ → ℕ → List Line
-suppliedLines number bv stored fits shifted m =
+abbrev pub suppliedLines : ℕ → ℕ → ℕ → List ℕ → List Fit → List ℕ → ℕ → List Line
+suppliedLines lim number bv stored fits shifted m =
     lengthLines stored
-    ++ (2 returns (firstWrong m (length shifted) ∷ []) ∷ 6 returns (number ∷ bv ∷ []) ∷ 7 returns weakValues number (refitOf fits shifted) ∷ [])
+    ++ (2 returns (firstWrong m (length shifted) ∷ [])
+    ∷ 6 returns (number ∷ bv ∷ [])
+    ∷ 7 returns weakValues number (refitOf fits shifted)
+    ∷ 20 returns (lim ∷ [])
+    ∷ [])

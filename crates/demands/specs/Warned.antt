@@ -35,17 +35,17 @@ inDoubt fits n = howMany (λ s. not (confidentOf (entry fits s))) n
 
 pub record Warned : Type 0 where
   pub decoding :
-      (lim number : ℕ) (stored : List ℕ) (fits : List Fit) (shifted anchors : List ℕ) (o : Options) (m : ℕ)
+      (number : ℕ) (stored : List ℕ) (fits : List Fit) (shifted anchors : List ℕ) (o : Options) (m : ℕ)
       → isUnallocated stored ≡ false
-      → let d : Decoding = decodingOf lim number stored fits shifted anchors o m in
+      → let d : Decoding = decodingOf number stored fits shifted anchors o m in
       isAccepted (d .choice .answer) ≡ true
       → d .warnings
       ≡ warningsAfter number (keystream o) (d .fits) (d .choice) (warningNoted number (integrityWarning (integrityOf number stored)) noWarnings)
   -- a supplied bv: no integrity warning
   pub supplied :
-      (lim number bv : ℕ) (stored : List ℕ) (fits : List Fit) (shifted : List ℕ) (o : Options) (m : ℕ)
+      (number bv : ℕ) (stored : List ℕ) (fits : List Fit) (shifted : List ℕ) (o : Options) (m : ℕ)
       → isUnallocated stored ≡ false
-      → let d : Decoding = suppliedDecodingOf lim number bv stored fits shifted o m in
+      → let d : Decoding = suppliedDecodingOf number bv stored fits shifted o m in
       isAccepted (d .choice .answer) ≡ true
       → d .warnings ≡ warningsAfter number (keystream o) (d .fits) (d .choice) noWarnings
   -- under KEYSTREAM, behind one warning at most, every one has its place in the table

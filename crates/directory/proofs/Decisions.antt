@@ -19,12 +19,13 @@ use Rattle.preludes.specs.Preludes.{preludeOf}
 use Rattle.preludes.specs.declared.search.Prelude.{Prelude}
 use Rattle.preludes.specs.declared.search.Prelude.the-variants as prelude
 use Rattle.slots.proofs.Pages.{plain-zero}
+use Rattle.answers.specs.Settings.{limitFits}
 use Rattle.answers.specs.declared.notices.WarningKind.{WarningKind}
 use Rattle.answers.specs.declared.notices.WarningKind.the-variants as warning
 use Rattle.directory.specs.Directory.{slotsOf, isInside, insideOf, tallyOf, Sound}
 use Rattle.directory.specs.Decisions.{nothingListed, verdictRefused, verdictTaken, fewOf, unconfirmedOf, manyOf}
 use Rattle.directory.specs.Decisions.{foundOf, insideCheckedBy, insideChecked, decisionOf}
-use Rattle.directory.specs.declared.verdicts.Verdict.the-variants.{WrongLength, OffsetInside}
+use Rattle.directory.specs.declared.verdicts.Verdict.the-variants.{WrongLength, LimitOutOfRange, OffsetInside}
 use Rattle.directory.specs.declared.verdicts.Listed.{Listed}
 use Rattle.directory.specs.declared.verdicts.Inside.{Inside}
 use Rattle.directory.specs.declared.verdicts.Decided.{Decided}
@@ -73,9 +74,18 @@ module _ (lim : ℕ) (plain : List ℕ) (lenient : Bool) where
   unfolding decisionOf
   decided-short k = rw (ne-eqb (length plain) 4096 k) refl
 
-  pub decided-page : (n : ℕ) → length plain ≡ 4096 → n ≡ byteAt plain 0xFF0 → insideChecked plain lenient (foundOf lim plain n lenient) ≡ decisionOf lim plain lenient
+  pub decided-out : length plain ≡ 4096 → limitFits lim ≡ false → verdictRefused (LimitOutOfRange lim) ≡ decisionOf lim plain lenient
   unfolding decisionOf
-  decided-page n k e = rw (eq-eqb (length plain) 4096 k, e) refl
+  decided-out k f = rw (eq-eqb (length plain) 4096 k, f) refl
+
+  pub decided-page :
+      (n : ℕ)
+      → length plain ≡ 4096
+      → limitFits lim ≡ true
+      → n ≡ byteAt plain 0xFF0
+      → insideChecked plain lenient (foundOf lim plain n lenient) ≡ decisionOf lim plain lenient
+  unfolding decisionOf
+  decided-page n k f e = rw (eq-eqb (length plain) 4096 k, f, e) refl
 
 -- offsets inside
 module _ (lenient : Bool) (d : Decided) (end : ℕ) (l : List ℕ) (i : Inside) (e : i ≡ tallyOf l) where
@@ -201,23 +211,31 @@ module _ (lim : ℕ) (plain : List ℕ) (P : ℕ → ℕ → Type 0) (none : P 0
         go false true = few-holds (preludeOf lim plain n) refl lenient
         go false false = many-holds (preludeOf lim plain n) refl lenient
 
+module _ (lim : ℕ) (plain : List ℕ) (P : ℕ → ℕ → Type 0) (none : P 0 0) where
   checked-holds : (d : Decided) → ListedAs P (d .listed) → (lenient : Bool) (end : ℕ) (l : List ℕ) → ListedAs P (insideCheckedBy lenient d end l .listed)
   checked-holds d s lenient end [] = s
   checked-holds d s true end (v ∷ l) = s
   checked-holds d s false end (v ∷ l) = none
 
-  pub decided-holds : ((s : ℕ) → preludeOf lim plain (byteAt plain 0xFF0) ≡ prelude.One s → P s (byteAt plain 0xFF0)) → (lenient : Bool) → ListedAs P (decisionOf lim plain lenient .listed)
+  -- something is looked for only where the limit fits
+  pub decided-holds :
+      (lenient : Bool)
+      → (limitFits lim ≡ true → ListedAs P (foundOf lim plain (byteAt plain 0xFF0) lenient .listed))
+      → ListedAs P (decisionOf lim plain lenient .listed)
   unfolding decisionOf
-  decided-holds declared lenient = go (eqb (length plain) 4096)
+  decided-holds lenient found = go (eqb (length plain) 4096) (limitFits lim) refl
     where
       d : Decided
       d = foundOf lim plain (byteAt plain 0xFF0) lenient
 
-      go : (b : Bool) → ListedAs P (pick b (insideChecked plain lenient d) (verdictRefused (WrongLength (length plain))) .listed)
-      go true =
-          checked-holds d (found-holds (byteAt plain 0xFF0) declared lenient) lenient (d .listed .start + 2 * d .listed .count)
-          (insideOf plain (d .listed .start) (d .listed .count))
-      go false = none
+      go :
+          (b c : Bool)
+          → limitFits lim ≡ c
+          → ListedAs P (pick b (pick c (insideChecked plain lenient d) (verdictRefused (LimitOutOfRange lim))) (verdictRefused (WrongLength (length plain))) .listed)
+      go true true f =
+          checked-holds d (found f) lenient (d .listed .start + 2 * d .listed .count) (insideOf plain (d .listed .start) (d .listed .count))
+      go true false f = none
+      go false c f = none
 
 -- what is listed is sound
 none-sound : (plain : List ℕ) → Sound plain 0 0
@@ -227,7 +245,7 @@ pub found-sound : (lim : ℕ) (plain : List ℕ) (n : ℕ) (lenient : Bool) → 
 found-sound lim plain n lenient = found-holds lim plain (Sound plain) (none-sound plain) (scanned-sound lim plain) n (prelude-sound lim plain n) lenient
 
 pub decided-sound : (lim : ℕ) (plain : List ℕ) (lenient : Bool) → ListedAs (Sound plain) (decisionOf lim plain lenient .listed)
-decided-sound lim plain lenient = decided-holds lim plain (Sound plain) (none-sound plain) (scanned-sound lim plain) (prelude-sound lim plain (byteAt plain 0xFF0)) lenient
+decided-sound lim plain lenient = decided-holds lim plain (Sound plain) (none-sound plain) lenient (λ f. found-sound lim plain (byteAt plain 0xFF0) lenient)
 
 pub sound-decided : (lim : ℕ) (plain : List ℕ) (lenient : Bool) (d : Decided) → d ≡ decisionOf lim plain lenient → ListedAs (Sound plain) (d .listed)
 sound-decided lim plain lenient d e = rw e (decided-sound lim plain lenient)

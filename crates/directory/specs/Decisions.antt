@@ -13,6 +13,7 @@ use Rattle.slots.specs.declared.scans.Found.the-variants as scan
 use Rattle.preludes.specs.Preludes.{preludeOf}
 use Rattle.preludes.specs.declared.search.Prelude.{Prelude}
 use Rattle.preludes.specs.declared.search.Prelude.the-variants as prelude
+use Rattle.answers.specs.Settings.{limitFits}
 use Rattle.answers.specs.declared.kinds.Answer.{Answer}
 use Rattle.answers.specs.declared.kinds.Answer.the-variants as answer
 use Rattle.answers.specs.declared.kinds.Reason.{Reason}
@@ -21,15 +22,16 @@ use Rattle.answers.specs.declared.notices.WarningKind.{WarningKind}
 use Rattle.answers.specs.declared.notices.WarningKind.the-variants as warning
 use Rattle.directory.specs.Directory.{insideOf}
 use Rattle.directory.specs.declared.verdicts.Verdict.{Verdict}
-use Rattle.directory.specs.declared.verdicts.Verdict.the-variants.{Accepted, WrongLength, NoDirectory, NoPrelude, Truncated, Ambiguous, OffsetInside}
+use Rattle.directory.specs.declared.verdicts.Verdict.the-variants.{Accepted, WrongLength, LimitOutOfRange, NoDirectory, NoPrelude, Truncated, Ambiguous, OffsetInside}
 use Rattle.directory.specs.declared.verdicts.Declared.the-variants.{Count, Scanned}
 use Rattle.directory.specs.declared.verdicts.Listed.{Listed}
 use Rattle.directory.specs.declared.verdicts.Decided.{Decided}
 
--- the answers 0, 1 and 8 to 12, these last with the page number
+-- the answers 0, 1, 20 and 8 to 12, these last with the page number
 abbrev pub answerOf : ℕ → Verdict → Answer
 answerOf number Accepted = answer.Accepted
 answerOf number (WrongLength n) = answer.WrongPageLength n
+answerOf number (LimitOutOfRange lim) = answer.LimitOutOfRange lim
 answerOf number (NoDirectory reason) = answer.NoSlotDirectory number reason
 answerOf number NoPrelude = answer.UnknownPrelude number
 answerOf number (Truncated found expected stop) = answer.SlotDirectoryTruncated number found expected stop
@@ -104,7 +106,9 @@ abbrev pub insideChecked : List ℕ → Bool → Decided → Decided
 insideChecked plain lenient d =
     insideCheckedBy lenient d (d .listed .start + 2 * d .listed .count) (insideOf plain (d .listed .start) (d .listed .count))
 
--- the parse: 1, then where the directory is, then the offsets inside it. The row count is at 0xFF0
+-- the parse: 1, then 20 for a limit out of range, then where the directory is, then the offsets inside it. The row count is at 0xFF0
 unfoldable pub decisionOf : ℕ → List ℕ → Bool → Decided
 decisionOf lim plain lenient =
-    pick (eqb (length plain) 4096) (insideChecked plain lenient (foundOf lim plain (byteAt plain 0xFF0) lenient)) (verdictRefused (WrongLength (length plain)))
+    pick (eqb (length plain) 4096)
+    (pick (limitFits lim) (insideChecked plain lenient (foundOf lim plain (byteAt plain 0xFF0) lenient)) (verdictRefused (LimitOutOfRange lim)))
+    (verdictRefused (WrongLength (length plain)))

@@ -1,5 +1,6 @@
 // What the parse decides, in small values: a refusal or a directory, and at most three warnings. The page number plays no part.
 use answers::Answer;
+use answers::Options;
 use answers::Reason;
 use answers::WarningKind;
 use numbers::pair;
@@ -23,6 +24,7 @@ ghost use Rattle.directory.specs.Decisions.{manyOf, foundOf, insideCheck
 pub enum Verdict {
     Accepted,
     WrongLength(usize),
+    LimitOutOfRange(usize),
     NoDirectory(Reason),
     NoPrelude,
     Truncated {
@@ -73,6 +75,7 @@ impl Verdict {
         match self {
             Verdict::Accepted => Answer::Accepted,
             Verdict::WrongLength(length) => Answer::WrongPageLength(length),
+            Verdict::LimitOutOfRange(limit) => Answer::LimitOutOfRange(limit),
             Verdict::NoDirectory(reason) => Answer::NoSlotDirectory {
                 page: number,
                 reason,
@@ -100,13 +103,16 @@ impl Verdict {
     }
 }
 
-// The parse of a page, its checks in their order: the length, where the directory is, offsets inside it.
+// The parse of a page, its checks in their order: the length, the limit, where the directory is, offsets inside it.
 pub fn decide(plain: &[u8], limit: usize, lenient: bool) -> Decided
     ensures { λ r. ⌜ r ≡ decisionOf limit (now (plain .entry)) lenient ⌝ }
 {
     let length = plain.len();
     if length != 4096 {
         return refuse(Verdict::WrongLength(length));
+    }
+    if !Options::limit_fits(limit) {
+        return refuse(Verdict::LimitOutOfRange(limit));
     }
     let n = plain[0xFF0];
     check_inside(plain, lenient, find(plain, limit, n, lenient))

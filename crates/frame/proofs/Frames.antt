@@ -1,24 +1,25 @@
 -- Which lines are frames, by the tests that the code makes. Assumes nothing.
 use Prim.Native.Nat.{ℕ, _+_, _*_, _/_, _%_, _≤_, _<_}
-use lib.Seq.{take-all}
+use lib.Seq.{take-all, drop-cons, drop-length, getD-take, length-take-le}
 use mathlib.Core.Path.{_≡_, refl, sym, ap, ap₂, _∙_}
 use mathlib.Core.Bool.{Bool, true, false}
-use mathlib.Core.List.{List}
+use mathlib.Core.List.{List, [], _∷_}
 use native.Mathlib.Omega.{arith}
 use borrow.Author.Tests.{ltb-true, lt-ltb, eqb-true, eq-eqb, le-leb, lt-leb}
 use lib.Dec.{eqb}
-use lib.ListN.{length, take}
+use lib.ListN.{length, getD, take, drop}
 use Rattle.lists.specs.Cases.{pick}
 use Rattle.lists.specs.Bytes.{byteAt}
 use Rattle.lists.specs.Pieces.{fold, over}
 use Rattle.lists.proofs.Booleans.{and-yes, and-not-both, and-left, and-right}
 use Rattle.lists.proofs.Fold.{fold-more}
 use Rattle.lists.proofs.Over.{front-at, front-take}
-use Rattle.numbers.specs.Numbers.{andByte, bigEndian, eightBytes}
+use Rattle.numbers.specs.Numbers.{andByte, bigEndian, twoBytes, eightBytes}
+use Rattle.numbers.proofs.Widths.{two-big}
 use Rattle.digits.specs.Digits.{valueAt, digitValues, valuesInto, worstOf, allDigits, spelled, hexed, pairedInto}
 use Rattle.digits.proofs.Values.{worst-above, values-yes}
 use Rattle.digits.proofs.Spelling.{spelled-at, spelled-length, values-length, values-at, pairs-spell, hexed-length, spelled-hexed, hexed-digits}
-use Rattle.frame.specs.Frames.{leastFrame, frameMost, anchorCount, isFrame, pageNumber, optionBits, leastCount, goodOf, frameOf, frameIn, frameBytes}
+use Rattle.frame.specs.Frames.{leastFrame, frameMost, anchorCount, isFrame, pageNumber, optionBits, leastCount, limitOf, goodOf, frameOf, frameIn, frameBytes}
 use Rattle.frame.specs.declared.reading.Frame.the-variants.{Good, Nothing}
 
 -- the page number by its eight bytes
@@ -44,11 +45,22 @@ big-eight l h =
     let e8 = big-more l 7 (omega arith) in
     omega arith
 
+-- and the limit by its two
+pub big-two : (l : List ℕ) → 12 ≤ length l → twoBytes (byteAt l 11) (byteAt l 10) ≡ bigEndian (drop 10 (take 12 l))
+big-two l h =
+    let m : List ℕ = take 12 l in
+    let long : length m ≡ 12 = length-take-le 12 l h in
+    sym (two-big (byteAt l 11) (byteAt l 10))
+    ∙ ap₂ (λ (a b : ℕ). bigEndian (a ∷ b ∷ [])) (sym (getD-take 12 l 10 0 (omega arith))) (sym (getD-take 12 l 11 0 (omega arith)))
+    ∙ ap (λ (r : List ℕ). bigEndian (getD m 10 0 ∷ getD m 11 0 ∷ r)) (sym (ap (λ (n : ℕ). drop n m) (sym long) ∙ drop-length m))
+    ∙ ap (λ (r : List ℕ). bigEndian (getD m 10 0 ∷ r)) (sym (drop-cons m 11 0 (omega arith)))
+    ∙ ap bigEndian (sym (drop-cons m 10 0 (omega arith)))
+
 module _ (line : List ℕ) where
   -- n is a byte
-  pub count-byte : worstOf line < 16 → 22 ≤ length line → anchorCount line < 256
+  pub count-byte : worstOf line < 16 → 26 ≤ length line → anchorCount line < 256
   count-byte h k =
-      omega (arith, spelled-at line 10 (omega arith), worst-above line 20 h (omega arith), worst-above line 21 h (omega arith))
+      omega (arith, spelled-at line 12 (omega arith), worst-above line 24 h (omega arith), worst-above line 25 h (omega arith))
 
   no-frame : (worstOf line < 16 → length line ≡ 2 * (leastFrame + anchorCount line) → ⊥) → isFrame line ≡ false
   unfolding isFrame
@@ -93,7 +105,12 @@ module _ (line : List ℕ) where
   answer-yes bytes h e =
       let n : length (spelled line) ≡ length line / 2 = spelled-length line in
       rw (frame-yes h e)
-      (rw (front-take bytes (spelled line) 8 (omega arith), front-at bytes (spelled line) 0 8 (omega arith), front-at bytes (spelled line) 0 9 (omega arith)))
+      (rw (
+        front-take bytes (spelled line) 8 (omega arith),
+        front-at bytes (spelled line) 0 8 (omega arith),
+        front-at bytes (spelled line) 0 9 (omega arith),
+        front-take bytes (spelled line) 12 (omega arith),
+      ))
 
   pub small : (m : ℕ) → m < frameMost → Nothing ≡ frameIn m line
   unfolding frameIn
@@ -128,8 +145,8 @@ module _ (line room values : List ℕ) (h : length line ≤ length room) (e : va
   value-is : (k : ℕ) → k < length line → byteAt values k ≡ valueAt line k
   value-is k b = ap (λ (l : List ℕ). byteAt l k) values-are ∙ front-at room (digitValues line) 0 k (omega (arith, values-length line)) ∙ values-at line k b
 
-  pub count-of : 22 ≤ length line → (byteAt values 20 * 16 + byteAt values 21) % 256 ≡ anchorCount line
-  count-of k = omega (arith, spelled-at line 10 (omega arith), value-is 20 (omega arith), value-is 21 (omega arith), worst-above line 20 w (omega arith), worst-above line 21 w (omega arith))
+  pub count-of : 26 ≤ length line → (byteAt values 24 * 16 + byteAt values 25) % 256 ≡ anchorCount line
+  count-of k = omega (arith, spelled-at line 12 (omega arith), value-is 24 (omega arith), value-is 25 (omega arith), worst-above line 24 w (omega arith), worst-above line 25 w (omega arith))
 
   pub pairs-of : (m : ℕ) (bytes : List ℕ) → m ≡ length line → length line / 2 ≤ length bytes → pairedInto (take m values) bytes ≡ over bytes 0 (spelled line)
   pairs-of m bytes f b =
@@ -139,39 +156,40 @@ module _ (line room values : List ℕ) (h : length line ≤ length room) (e : va
       ap (λ (l : List ℕ). pairedInto l bytes) all ∙ pairs-spell line w bytes b
 
 -- from the answer back to the line
-nothing-no : (b : Bool) (p o t n : ℕ) → pick b (Good p o t n) Nothing ≡ Nothing → b ≡ false
-nothing-no true p o t n e = let z : _≡_ {A = ℕ} 0 1 = cc in absurd (omega arith)
-nothing-no false p o t n e = refl
+nothing-no : (b : Bool) (p o t m n : ℕ) → pick b (Good p o t m n) Nothing ≡ Nothing → b ≡ false
+nothing-no true p o t m n e = let z : _≡_ {A = ℕ} 0 1 = cc in absurd (omega arith)
+nothing-no false p o t m n e = refl
 
 pub frame-nothing : (line : List ℕ) → frameOf line ≡ Nothing → isFrame line ≡ false
 unfolding frameOf
-frame-nothing line e = nothing-no (isFrame line) _ _ _ _ e
+frame-nothing line e = nothing-no (isFrame line) _ _ _ _ _ e
 
 -- the fields that a frame was answered with are those of its bytes
-pub record Fields (line : List ℕ) (p o t n : ℕ) : Type 0 where
+pub record Fields (line : List ℕ) (p o t m n : ℕ) : Type 0 where
   pub frame : isFrame line ≡ true
   pub number : p ≡ pageNumber (spelled line)
   pub options : o ≡ optionBits (spelled line)
   pub least : t ≡ leastCount (spelled line)
+  pub limit : m ≡ limitOf (spelled line)
   pub anchors : n ≡ anchorCount line
 
-good-fields : (b : Bool) (p o t n p′ o′ t′ n′ : ℕ) → pick b (Good p′ o′ t′ n′) Nothing ≡ Good p o t n
-    → (b ≡ true) × (p ≡ p′) × (o ≡ o′) × (t ≡ t′) × (n ≡ n′)
-good-fields true p o t n p′ o′ t′ n′ e = (refl, cc, cc, cc, cc)
-good-fields false p o t n p′ o′ t′ n′ e = let z : _≡_ {A = ℕ} 0 1 = cc in absurd (omega arith)
+good-fields : (b : Bool) (p o t m n p′ o′ t′ m′ n′ : ℕ) → pick b (Good p′ o′ t′ m′ n′) Nothing ≡ Good p o t m n
+    → (b ≡ true) × (p ≡ p′) × (o ≡ o′) × (t ≡ t′) × (m ≡ m′) × (n ≡ n′)
+good-fields true p o t m n p′ o′ t′ m′ n′ e = (refl, cc, cc, cc, cc, cc)
+good-fields false p o t m n p′ o′ t′ m′ n′ e = let z : _≡_ {A = ℕ} 0 1 = cc in absurd (omega arith)
 
-pub frame-good : (line : List ℕ) (p o t n : ℕ) → frameOf line ≡ Good p o t n → Fields line p o t n
+pub frame-good : (line : List ℕ) (p o t m n : ℕ) → frameOf line ≡ Good p o t m n → Fields line p o t m n
 unfolding frameOf
-frame-good line p o t n e =
-    let f = good-fields (isFrame line) p o t n _ _ _ _ e in
-    record { frame = f .0; number = f .1; options = f .2; least = f .3; anchors = f .4 }
+frame-good line p o t m n e =
+    let f = good-fields (isFrame line) p o t m n _ _ _ _ _ e in
+    record { frame = f .0; number = f .1; options = f .2; least = f .3; limit = f .4; anchors = f .5 }
 
--- The bytes of a frame, written as hexadecimal, are read back: eleven bytes, as many anchors as the last of them says, and 4,096.
-pub frame-hexed : (bytes : List ℕ) → ((k : ℕ) → k < length bytes → byteAt bytes k < 256) → length bytes ≡ leastFrame + byteAt bytes 10
-    → frameOf (hexed bytes) ≡ goodOf bytes (byteAt bytes 10)
+-- The bytes of a frame, written as hexadecimal, are read back: thirteen bytes, as many anchors as the last of them says, and 4,096.
+pub frame-hexed : (bytes : List ℕ) → ((k : ℕ) → k < length bytes → byteAt bytes k < 256) → length bytes ≡ leastFrame + byteAt bytes 12
+    → frameOf (hexed bytes) ≡ goodOf bytes (byteAt bytes 12)
 unfolding frameOf
 frame-hexed bytes b h =
     let back : spelled (hexed bytes) ≡ bytes = spelled-hexed bytes b in
-    let n : anchorCount (hexed bytes) ≡ byteAt bytes 10 = ap (λ (l : List ℕ). byteAt l 10) back in
+    let n : anchorCount (hexed bytes) ≡ byteAt bytes 12 = ap (λ (l : List ℕ). byteAt l 12) back in
     let yes : isFrame (hexed bytes) ≡ true = frame-yes (hexed bytes) (hexed-digits bytes b) (omega (arith, hexed-length bytes)) in
     rw yes (ap₂ goodOf back n)

@@ -1,5 +1,5 @@
 -- Document 01, "The program": "one frame a line: page number (8 bytes, big-endian), option bits, T, n (a byte each), n anchors, 4,096 stored
--- bytes". Assumes nothing.
+-- bytes"; request #109: the frame carries the limit "as two big-endian bytes after T". Assumes nothing.
 use Prim.Native.Nat.{ℕ, _+_, _*_}
 use mathlib.Core.Bool.{Bool, _&&_}
 use mathlib.Core.List.{List}
@@ -15,7 +15,7 @@ use Rattle.frame.specs.declared.reading.Frame.the-variants.{Good, Nothin
 
 -- the bytes before the anchors, those of a frame with none and with 255, and the characters of a line that tell whether it is one
 abbrev pub headSize : ℕ
-headSize = 11
+headSize = 13
 
 abbrev pub leastFrame : ℕ
 leastFrame = headSize + 4096
@@ -26,11 +26,11 @@ frameMost = leastFrame + 255
 abbrev pub lineRoom : ℕ
 lineRoom = frameMost + frameMost + 1
 
--- n, the eleventh byte
+-- n, the thirteenth byte
 abbrev pub anchorCount : List ℕ → ℕ
-anchorCount line = byteAt (spelled line) 10
+anchorCount line = byteAt (spelled line) 12
 
--- digits alone, two for each of 11 + n + 4,096 bytes: "anything else is line 11"
+-- digits alone, two for each of 13 + n + 4,096 bytes: "anything else is line 11". A limit out of range is no other line
 unfoldable pub isFrame : List ℕ → Bool
 isFrame line = allDigits line && eqb (length line) (2 * (leastFrame + anchorCount line))
 
@@ -44,6 +44,9 @@ optionBits bytes = byteAt bytes 8
 abbrev pub leastCount : List ℕ → ℕ
 leastCount bytes = byteAt bytes 9
 
+abbrev pub limitOf : List ℕ → ℕ
+limitOf bytes = bigEndian (drop 10 (take 12 bytes))
+
 abbrev pub anchorsOf : ℕ → List ℕ → List ℕ
 anchorsOf n bytes = take n (drop headSize bytes)
 
@@ -51,7 +54,7 @@ abbrev pub storedOf : ℕ → List ℕ → List ℕ
 storedOf n bytes = take 4096 (drop (headSize + n) bytes)
 
 abbrev pub goodOf : List ℕ → ℕ → Frame
-goodOf bytes n = Good (pageNumber bytes) (optionBits bytes) (leastCount bytes) n
+goodOf bytes n = Good (pageNumber bytes) (optionBits bytes) (leastCount bytes) (limitOf bytes) n
 
 unfoldable pub frameOf : List ℕ → Frame
 frameOf line = pick (isFrame line) (goodOf (spelled line) (anchorCount line)) Nothing

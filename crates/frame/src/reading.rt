@@ -1,16 +1,18 @@
-// A frame: document 01, "page number (8 bytes, big-endian), option bits, T, n (a byte each), n anchors, 4,096 stored bytes".
+// A frame: document 01, "page number (8 bytes, big-endian), option bits, T, n (a byte each), n anchors, 4,096 stored bytes", and request #109,
+// the limit "as two big-endian bytes after T".
 ghost use mathlib.Core.Path.{_≡_};
 ghost use Prim.Native.Nat.{_+_, _≤_};
 ghost use lib.ListN.{length};
-ghost use Rattle.frame.specs.Frames.{headSize, leastFrame, frameMost, frameOf, frameIn, frameBytes, goodOf, pageNumber};
+ghost use Rattle.frame.specs.Frames.{headSize, leastFrame, frameMost, frameOf, frameIn, frameBytes, goodOf, pageNumber, limitOf};
 use digits::digit_pair;
 use digits::digit_values;
 use digits::pair_up;
 use numbers::eight;
+use numbers::pair;
 use numbers::wide;
 
 // The bytes before the anchors, and those of the page.
-pub const HEAD: usize = 11;
+pub const HEAD: usize = 13;
 
 pub const PAGE: usize = 4096;
 // The longest frame has 255 anchors.
@@ -26,6 +28,7 @@ pub enum Frame {
         number: u64,
         options: u8,
         t: u8,
+        limit: usize,
         anchors: usize,
     },
     Nothing,
@@ -64,7 +67,7 @@ fn read_digits(line: &[u8], values: &mut [u8], bytes: &mut [u8]) -> Frame
     if 16 <= digit_values(line, values) {
         return Frame::Nothing;
     }
-    let n = wide(digit_pair(values[20], values[21]));
+    let n = wide(digit_pair(values[24], values[25]));
     if line.len() != 2 * FRAME_LEAST + n + n {
         return Frame::Nothing;
     }
@@ -81,6 +84,7 @@ fn fields(bytes: &[u8], n: usize) -> Frame
         number: page_number(bytes),
         options: bytes[8],
         t: bytes[9],
+        limit: search_limit(bytes),
         anchors: n,
     }
 }
@@ -100,4 +104,12 @@ fn page_number(bytes: &[u8]) -> u64
         bytes[1],
         bytes[0],
     )
+}
+
+// Two bytes, the greater first: any number of two bytes is read, also one that is no limit.
+fn search_limit(bytes: &[u8]) -> usize
+    requires { ⌜ headSize ≤ length (now bytes) ⌝ }
+    ensures { λ r. ⌜ r ≡ limitOf (now (bytes .entry)) ⌝ }
+{
+    pair(bytes[11], bytes[10]) as usize
 }

@@ -1,10 +1,11 @@
-// Frozen answers: questions put to the library through its C functions, and what the original answered to each. A question is a head of 22 bytes,
+// Frozen answers: questions put to the library through its C functions, and what the original answered to each. A question is a head of 30 bytes,
 // then a page, anchors and a sector's bytes, each as long as the head says. The head, the least byte of a number first:
 //
-//   0   1  what is asked, by the numbers of `answer` below      14  2  length of the page
-//   1   8  page number                                          16  2  length of the anchors
-//   9   3  leniency, T, bv                                      18  2  length of the sector's bytes
-//   12  2  sector or row                                        20  2  length of the buffer for plaintext or shifted bytes
+//   0   1  what is asked, by the numbers of `answer` below      20  2  sector or row
+//   1   8  page number                                          22  2  length of the page
+//   9   2  leniency, T                                          24  2  length of the anchors
+//   11  8  search limit                                         26  2  length of the sector's bytes
+//   19  1  bv                                                   28  2  length of the buffer for plaintext or shifted bytes
 //
 // An answer is a line: the layout of include/lumeviqo.h in hexadecimal, then the CRC-32 of each buffer that the function may write to.
 // stdin and stdout were made beside the original, by compare/driver/src/bin/freeze.rs; the program needs no original.
@@ -22,6 +23,7 @@ struct Question {
     number: u64,
     leniency: u8,
     t: u8,
+    limit: usize,
     bv: u8,
     place: u16,
     room: u16,
@@ -40,8 +42,8 @@ fn main() {
 
 // Reads a question and answers it; false at the end of input.
 fn next() -> bool {
-    let mut head = [0u8; 22];
-    if io::read_full(STDIN_FILENO, &mut head) < 22 {
+    let mut head = [0u8; 30];
+    if io::read_full(STDIN_FILENO, &mut head) < 30 {
         return false;
     }
     with_page(&head);
@@ -52,19 +54,19 @@ fn next() -> bool {
 // The page, the anchors and the sector's bytes are read in their order, each by a function of its own: a buffer's length is then plain to see.
 fn with_page(head: &[u8]) {
     let mut page = io::large_buffer();
-    read(&mut page, short(head, 14));
+    read(&mut page, short(head, 22));
     with_anchors(head, &mut page);
 }
 
 fn with_anchors(head: &[u8], page: &mut [u8]) {
     let mut anchors = io::buffer();
-    read(&mut anchors, short(head, 16));
+    read(&mut anchors, short(head, 24));
     with_bytes(head, page, &anchors);
 }
 
 fn with_bytes(head: &[u8], page: &mut [u8], anchors: &[u8]) {
     let mut bytes = io::buffer();
-    read(&mut bytes, short(head, 18));
+    read(&mut bytes, short(head, 26));
     ask(head, page, anchors, &bytes);
 }
 
@@ -75,9 +77,9 @@ fn read(buffer: &mut [u8], n: u16) {
 }
 
 fn ask(head: &[u8], page: &mut [u8], anchors: &[u8], bytes: &[u8]) {
-    let p = io::count(short(head, 14) as isize, page);
-    let a = io::count(short(head, 16) as isize, anchors);
-    let b = io::count(short(head, 18) as isize, bytes);
+    let p = io::count(short(head, 22) as isize, page);
+    let a = io::count(short(head, 24) as isize, anchors);
+    let b = io::count(short(head, 26) as isize, bytes);
     answer(
         at(head, 0),
         question_in(head),
@@ -89,21 +91,13 @@ fn ask(head: &[u8], page: &mut [u8], anchors: &[u8], bytes: &[u8]) {
 
 fn question_in(head: &[u8]) -> Question {
     Question {
-        number: numbers::eight(
-            at(head, 1),
-            at(head, 2),
-            at(head, 3),
-            at(head, 4),
-            at(head, 5),
-            at(head, 6),
-            at(head, 7),
-            at(head, 8),
-        ),
+        number: long(head, 1),
         leniency: at(head, 9),
         t: at(head, 10),
-        bv: at(head, 11),
-        place: short(head, 12),
-        room: short(head, 20),
+        limit: long(head, 11) as usize,
+        bv: at(head, 19),
+        place: short(head, 20),
+        room: short(head, 28),
     }
 }
 
@@ -116,6 +110,20 @@ fn short(b: &[u8], k: usize) -> u16 {
         return 0;
     }
     numbers::pair(at(b, k), at(b, k + 1))
+}
+
+fn long(b: &[u8], k: u8) -> u64 {
+    let k = k as usize;
+    numbers::eight(
+        at(b, k),
+        at(b, k + 1),
+        at(b, k + 2),
+        at(b, k + 3),
+        at(b, k + 4),
+        at(b, k + 5),
+        at(b, k + 6),
+        at(b, k + 7),
+    )
 }
 
 fn answer(asked: u8, q: Question, page: &mut [u8], anchors: &[u8], bytes: &[u8]) {
@@ -134,6 +142,7 @@ fn answer(asked: u8, q: Question, page: &mut [u8], anchors: &[u8], bytes: &[u8])
         12 => row(q, page),
         13 => rows(q, page),
         14 => too_many(q.number),
+        15 => supplied_summary(q, page),
         _ => text(b"?"),
     }
 }
@@ -212,6 +221,7 @@ fn decode_summary(q: Question, page: &[u8], fits: &[u8], shifted: &[u8], anchors
         anchors,
         q.leniency,
         q.t,
+        q.limit,
         &mut out,
         &mut answer,
     );
@@ -233,6 +243,7 @@ fn decode_to(q: Question, page: &[u8], anchors: &[u8], out: &mut [u8]) {
         anchors,
         q.leniency,
         q.t,
+        q.limit,
         &mut out[..room],
         &mut answer,
     );
@@ -249,6 +260,34 @@ fn supplied(q: Question, page: &[u8]) {
         q.bv,
         q.leniency,
         q.t,
+        q.limit,
+        &mut out,
+        &mut answer,
+    );
+    tell(&answer, n);
+    crc(&out);
+}
+
+// A scan, and the decoding from its summary with the bv of the question.
+fn supplied_summary(q: Question, page: &[u8]) {
+    let mut shifted = shifted_room();
+    let mut scanned = answer_room();
+    lumeviqo::lumeviqo_scan(q.number, page, &mut shifted, &mut scanned);
+    supplied_from(q, page, &scanned[ANSWER_SIZE..SCAN_SIZE], &shifted);
+}
+
+fn supplied_from(q: Question, page: &[u8], fits: &[u8], shifted: &[u8]) {
+    let mut answer = answer_room();
+    let mut out = io::buffer();
+    let n = lumeviqo::lumeviqo_decode_supplied_summary(
+        q.number,
+        page,
+        fits,
+        shifted,
+        q.bv,
+        q.leniency,
+        q.t,
+        q.limit,
         &mut out,
         &mut answer,
     );
@@ -258,25 +297,32 @@ fn supplied(q: Question, page: &[u8]) {
 
 fn parse(q: Question, plain: &[u8]) {
     let mut answer = answer_room();
-    let n = lumeviqo::lumeviqo_parse(q.number, plain, q.leniency, &mut answer);
+    let n = lumeviqo::lumeviqo_parse(q.number, plain, q.leniency, q.limit, &mut answer);
     tell(&answer, n);
 }
 
 fn row_count(q: Question, plain: &[u8]) {
     let mut answer = answer_room();
-    let n = lumeviqo::lumeviqo_row_count(q.number, plain, q.leniency, &mut answer);
+    let n = lumeviqo::lumeviqo_row_count(q.number, plain, q.leniency, q.limit, &mut answer);
     tell(&answer, n);
 }
 
 fn row(q: Question, plain: &[u8]) {
     let mut answer = answer_room();
-    let n = lumeviqo::lumeviqo_row(q.number, plain, q.leniency, q.place as usize, &mut answer);
+    let n = lumeviqo::lumeviqo_row(
+        q.number,
+        plain,
+        q.leniency,
+        q.limit,
+        q.place as usize,
+        &mut answer,
+    );
     tell(&answer, n);
 }
 
 fn rows(q: Question, plain: &[u8]) {
     let mut answer = answer_room();
-    let n = lumeviqo::lumeviqo_rows(q.number, plain, q.leniency, &mut answer);
+    let n = lumeviqo::lumeviqo_rows(q.number, plain, q.leniency, q.limit, &mut answer);
     tell(&answer, n);
 }
 
@@ -319,7 +365,7 @@ fn crc(bytes: &[u8]) {
 }
 
 fn hex(bytes: &[u8]) {
-    let mut digits = io::buffer();
+    let mut digits = io::large_buffer();
     let n = digits::write_hex(bytes, &mut digits);
     let n = io::count((n % 65536) as isize, &digits);
     text(&digits[..n]);

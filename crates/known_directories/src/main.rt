@@ -1,4 +1,4 @@
-// Pages whose answers are known: document 01's page with four rows, one for each of the answers 1, 8 to 12 and 16, and those that settle
+// Pages whose answers are known: document 01's page with four rows, one for each of the answers 1, 8 to 12, 16 and 20, and those that settle
 // points of docs/DECISIONS.md, strictly and leniently. What they must give was written down by the original, from the same pages
 // (compare/driver/src/bin/known.rs).
 use answers::Answer;
@@ -107,9 +107,9 @@ fn declared(how: Declared) {
 }
 
 // The parse, then the rows.
-fn show(name: &[u8], plain: &[u8], bits: u8) {
+fn show(name: &[u8], plain: &[u8], bits: u8, limit: usize) {
     text(name);
-    let options = Options::new(bits, Options::MIN_TRAILER_COUNT);
+    let options = Options::new(bits, Options::MIN_TRAILER_COUNT, limit);
     let parsed = slotted::parse(7, plain, options);
     let a = parsed.answer;
     answer(a);
@@ -139,7 +139,7 @@ fn nth_warning(warnings: ParseWarnings, i: usize) {
     if warnings.len <= i {
         return;
     }
-    if 386 <= i {
+    if 1026 <= i {
         return;
     }
     let w = warnings.items[i];
@@ -180,9 +180,13 @@ fn two_starts(plain: &[u8], options: Options) {
     number(counted.rows as u64);
 }
 
+fn both_at(limit: usize, name: &[u8], plain: &[u8]) {
+    show(name, plain, 0, limit);
+    show(name, plain, 2, limit);
+}
+
 fn both(name: &[u8], plain: &[u8]) {
-    show(name, plain, 0);
-    show(name, plain, 2);
+    both_at(Options::SEARCH_LIMIT, name, plain);
 }
 
 fn yes(b: bool) {
@@ -193,8 +197,8 @@ fn yes(b: bool) {
     }
 }
 
-fn matches(plain: &[u8], t: u8) {
-    yes(slots::page_row_count_matches(plain, t));
+fn matches(plain: &[u8], limit: usize, t: u8) {
+    yes(slots::page_row_count_matches(plain, limit, t));
 }
 
 // What the record of a row holds: where it starts, how long its part is, and its exact mark.
@@ -232,8 +236,8 @@ fn four_rows() {
     lay(&mut page, b"FF0:5 40:5 44:F00,E00,D00,0,C00");
     both(b"four rows", &page);
     text(b"row count at T 5 and 6");
-    matches(&page, 5);
-    matches(&page, 6);
+    matches(&page, Options::SEARCH_LIMIT, 5);
+    matches(&page, Options::SEARCH_LIMIT, 6);
     text(b"\nits records");
     show_record(&page, 0);
     show_record(&page, 1);
@@ -291,7 +295,21 @@ fn earliest_scan_counted() {
     lay(&mut page, b"FF0:4 20:4 22:107 26:E0F,C0D,A0B,809");
     both(b"earliest scan, counted", &page);
     text(b"row count at T 4");
-    matches(&page, 4);
+    matches(&page, Options::SEARCH_LIMIT, 4);
+    text(b"\n");
+}
+
+// The first field past 768, and slots that end at 782.
+fn at_other_limits() {
+    let mut page = io::buffer();
+    lay(&mut page, b"FF0:5 300:5 304:F00,E00,D00,0,C00");
+    both_at(768, b"field 0x300 at 768", &page);
+    both_at(769, b"field 0x300 at 769", &page);
+    both_at(2049, b"field 0x300 at 2,049", &page);
+    text(b"row count at 781, 782 and 2,049");
+    matches(&page, 781, 5);
+    matches(&page, 782, 5);
+    matches(&page, 2049, 5);
     text(b"\n");
 }
 
@@ -333,6 +351,7 @@ fn main() {
     inside();
     earliest_scan();
     earliest_scan_counted();
+    at_other_limits();
     empty();
     short();
     inputs();

@@ -21,7 +21,7 @@ use Rattle.parts.specs.Parts.{answerSize, answerFields, fitsSize, fitsFields, b
 
 -- "changes with every layout"
 abbrev pub layoutVersion : ℕ
-layoutVersion = 2
+layoutVersion = 3
 
 -- integrity: the answer part alone
 abbrev pub integrityBytes : Answer → List ℕ

@@ -16,4 +16,4 @@ pub use summaries::write_replacement;
 pub use summaries::write_scan;
 
 // The version of the layouts: any change of one is a change of this.
-pub const LAYOUT_VERSION: u32 = 2;
+pub const LAYOUT_VERSION: u32 = 3;

@@ -18,7 +18,6 @@ use Rattle.parts.specs.Lent.{isLent, fitsIn}
 use Rattle.layout.specs.Layouts.{scanSize, scanBytes, replacementBytes, decodingSize, decodingBytes}
 use Rattle.parse_layout.specs.ParseLayouts.{parseBytes}
 use Rattle.row_layout.specs.RowLayouts.{rowCountBytes, rowBytes, pageRowsBytes}
-use Rattle.slots.specs.Slots.{searchLimit}
 
 -- a buffer has room for a layout of n bytes
 abbrev pub hasRoom : ℕ → List ℕ → Bool
@@ -43,24 +42,24 @@ pub record ReplaceCall (number sector : ℕ) (new fits stored storedAtExit shift
 -- ---- decodings, for a buffer of `room` bytes
 
 -- by its own scan
-abbrev pub decoded : ℕ → List ℕ → List ℕ → ℕ → ℕ → ℕ → Decoding
-decoded number stored anchors leniency t room =
-    decodingOf searchLimit number stored (fitsOf number stored) (bytesOf number stored) anchors (optionsOf leniency t) room
+abbrev pub decoded : ℕ → List ℕ → List ℕ → ℕ → ℕ → ℕ → ℕ → Decoding
+decoded number stored anchors leniency t limit room =
+    decodingOf number stored (fitsOf number stored) (bytesOf number stored) anchors (optionsOf leniency t limit) room
 
 -- from a summary: 64 bytes of fits, and shifted bytes
-abbrev pub decodedFrom : ℕ → List ℕ → List ℕ → List ℕ → List ℕ → ℕ → ℕ → ℕ → Decoding
-decodedFrom number stored fits shifted anchors leniency t room =
-    decodingOf searchLimit number stored (fitsIn fits) shifted anchors (optionsOf leniency t) room
+abbrev pub decodedFrom : ℕ → List ℕ → List ℕ → List ℕ → List ℕ → ℕ → ℕ → ℕ → ℕ → Decoding
+decodedFrom number stored fits shifted anchors leniency t limit room =
+    decodingOf number stored (fitsIn fits) shifted anchors (optionsOf leniency t limit) room
 
 -- with a supplied bv, by its own scan
-abbrev pub supplied : ℕ → List ℕ → ℕ → ℕ → ℕ → ℕ → Decoding
-supplied number stored bv leniency t room =
-    suppliedDecodingOf searchLimit number bv stored (fitsOf number stored) (bytesOf number stored) (optionsOf leniency t) room
+abbrev pub supplied : ℕ → List ℕ → ℕ → ℕ → ℕ → ℕ → ℕ → Decoding
+supplied number stored bv leniency t limit room =
+    suppliedDecodingOf number bv stored (fitsOf number stored) (bytesOf number stored) (optionsOf leniency t limit) room
 
 -- and from a summary
-abbrev pub suppliedFrom : ℕ → List ℕ → List ℕ → List ℕ → ℕ → ℕ → ℕ → ℕ → Decoding
-suppliedFrom number stored fits shifted bv leniency t room =
-    suppliedDecodingOf searchLimit number bv stored (fitsIn fits) shifted (optionsOf leniency t) room
+abbrev pub suppliedFrom : ℕ → List ℕ → List ℕ → List ℕ → ℕ → ℕ → ℕ → ℕ → ℕ → Decoding
+suppliedFrom number stored fits shifted bv leniency t limit room =
+    suppliedDecodingOf number bv stored (fitsIn fits) shifted (optionsOf leniency t limit) room
 
 -- the decoding told, and the plain page written where it accepts
 pub record DecodingCall (lent : Bool) (d : Decoding) (stored shifted out outAtExit answer answerAtExit : List ℕ) (r : ℕ) : Type 0 where
@@ -69,16 +68,16 @@ pub record DecodingCall (lent : Bool) (d : Decoding) (stored shifted out outAtEx
 
 -- ---- slots and rows of a plain page
 
-abbrev pub parseTold : ℕ → List ℕ → ℕ → List ℕ
-parseTold number plain leniency = parseBytes (parsedOf searchLimit number plain (hasDirectory leniency))
+abbrev pub parseTold : ℕ → List ℕ → ℕ → ℕ → List ℕ
+parseTold number plain leniency limit = parseBytes (parsedOf limit number plain (hasDirectory leniency))
 
-abbrev pub rowCountTold : ℕ → List ℕ → ℕ → List ℕ
-rowCountTold number plain leniency =
-    rowCountBytes (parsedOf searchLimit number plain (hasDirectory leniency) .answer) (length (rowsOf searchLimit plain (hasDirectory leniency)))
+abbrev pub rowCountTold : ℕ → List ℕ → ℕ → ℕ → List ℕ
+rowCountTold number plain leniency limit =
+    rowCountBytes (parsedOf limit number plain (hasDirectory leniency) .answer) (length (rowsOf limit plain (hasDirectory leniency)))
 
-abbrev pub rowTold : ℕ → List ℕ → ℕ → ℕ → List ℕ
-rowTold number plain leniency row =
-    rowBytes (rowAnswerOf searchLimit number plain (hasDirectory leniency) row) (rowOf searchLimit plain (hasDirectory leniency) row)
+abbrev pub rowTold : ℕ → List ℕ → ℕ → ℕ → ℕ → List ℕ
+rowTold number plain leniency limit row =
+    rowBytes (rowAnswerOf limit number plain (hasDirectory leniency) row) (rowOf limit plain (hasDirectory leniency) row)
 
-abbrev pub rowsTold : ℕ → List ℕ → ℕ → List ℕ
-rowsTold number plain leniency = pageRowsBytes searchLimit number plain (hasDirectory leniency)
+abbrev pub rowsTold : ℕ → List ℕ → ℕ → ℕ → List ℕ
+rowsTold number plain leniency limit = pageRowsBytes limit number plain (hasDirectory leniency)

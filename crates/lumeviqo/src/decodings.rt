@@ -14,17 +14,18 @@ pub extern "C" fn lumeviqo_decode(
     anchors: &[u8],
     leniency: u8,
     t: u8,
+    limit: usize,
     out: &mut [u8],
     answer: &mut [u8],
 ) -> usize
-    ensures { λ r. ⌜ DecodingCall true (decoded number (now (stored .entry)) (now (anchors .entry)) leniency t (length (now (out .entry))))
+    ensures { λ r. ⌜ DecodingCall true (decoded number (now (stored .entry)) (now (anchors .entry)) leniency t limit (length (now (out .entry))))
         (now (stored .entry)) (bytesOf number (now (stored .entry)))
         (now (out .entry)) (now (out .exit)) (now (answer .entry)) (now (answer .exit)) r ⌝ }
 {
     if answer.len() < DECODING_SIZE {
         return 0;
     }
-    let options = Options::new(leniency, t);
+    let options = Options::new(leniency, t, limit);
     let found = decode::decode_page(number, stored, anchors, options, out);
     layout::write_decoding(answer, found)
 }
@@ -38,11 +39,12 @@ pub extern "C" fn lumeviqo_decode_summary(
     anchors: &[u8],
     leniency: u8,
     t: u8,
+    limit: usize,
     out: &mut [u8],
     answer: &mut [u8],
 ) -> usize
     ensures { λ r. ⌜ DecodingCall (isLent (now (fits .entry)))
-        (decodedFrom number (now (stored .entry)) (now (fits .entry)) (now (shifted .entry)) (now (anchors .entry)) leniency t (length (now (out .entry))))
+        (decodedFrom number (now (stored .entry)) (now (fits .entry)) (now (shifted .entry)) (now (anchors .entry)) leniency t limit (length (now (out .entry))))
         (now (stored .entry)) (now (shifted .entry))
         (now (out .entry)) (now (out .exit)) (now (answer .entry)) (now (answer .exit)) r ⌝ }
 {
@@ -52,7 +54,7 @@ pub extern "C" fn lumeviqo_decode_summary(
     if !parts::fits_lent(fits) {
         return 0;
     }
-    let options = Options::new(leniency, t);
+    let options = Options::new(leniency, t, limit);
     let lent = parts::fits_in(fits);
     let found = decode::decode_summary(number, stored, lent, shifted, anchors, options, out);
     layout::write_decoding(answer, found)
@@ -65,17 +67,18 @@ pub extern "C" fn lumeviqo_decode_supplied(
     bv: u8,
     leniency: u8,
     t: u8,
+    limit: usize,
     out: &mut [u8],
     answer: &mut [u8],
 ) -> usize
-    ensures { λ r. ⌜ DecodingCall true (supplied number (now (stored .entry)) bv leniency t (length (now (out .entry))))
+    ensures { λ r. ⌜ DecodingCall true (supplied number (now (stored .entry)) bv leniency t limit (length (now (out .entry))))
         (now (stored .entry)) (bytesOf number (now (stored .entry)))
         (now (out .entry)) (now (out .exit)) (now (answer .entry)) (now (answer .exit)) r ⌝ }
 {
     if answer.len() < DECODING_SIZE {
         return 0;
     }
-    let options = Options::new(leniency, t);
+    let options = Options::new(leniency, t, limit);
     let found = decode::decode_with_bv(number, bv, stored, options, out);
     layout::write_decoding(answer, found)
 }
@@ -89,11 +92,12 @@ pub extern "C" fn lumeviqo_decode_supplied_summary(
     bv: u8,
     leniency: u8,
     t: u8,
+    limit: usize,
     out: &mut [u8],
     answer: &mut [u8],
 ) -> usize
     ensures { λ r. ⌜ DecodingCall (isLent (now (fits .entry)))
-        (suppliedFrom number (now (stored .entry)) (now (fits .entry)) (now (shifted .entry)) bv leniency t (length (now (out .entry))))
+        (suppliedFrom number (now (stored .entry)) (now (fits .entry)) (now (shifted .entry)) bv leniency t limit (length (now (out .entry))))
         (now (stored .entry)) (now (shifted .entry))
         (now (out .entry)) (now (out .exit)) (now (answer .entry)) (now (answer .exit)) r ⌝ }
 {
@@ -103,7 +107,7 @@ pub extern "C" fn lumeviqo_decode_supplied_summary(
     if !parts::fits_lent(fits) {
         return 0;
     }
-    let options = Options::new(leniency, t);
+    let options = Options::new(leniency, t, limit);
     let lent = parts::fits_in(fits);
     let found = decode::decode_summary_with_bv(number, bv, stored, lent, shifted, options, out);
     layout::write_decoding(answer, found)

@@ -8,11 +8,12 @@ pub extern "C" fn lumeviqo_parse(
     number: u64,
     plain: &[u8],
     leniency: u8,
+    limit: usize,
     answer: &mut [u8],
 ) -> usize
-    ensures { λ r. ⌜ Wrote (now (answer .entry)) 0 (parseTold number (now (plain .entry)) leniency) (now (answer .exit)) r ⌝ }
+    ensures { λ r. ⌜ Wrote (now (answer .entry)) 0 (parseTold number (now (plain .entry)) leniency limit) (now (answer .exit)) r ⌝ }
 {
-    let options = Options::new(leniency, Options::MIN_TRAILER_COUNT);
+    let options = Options::new(leniency, Options::MIN_TRAILER_COUNT, limit);
     parse_layout::write_parse(answer, number, plain, options)
 }
 
@@ -21,11 +22,12 @@ pub extern "C" fn lumeviqo_row_count(
     number: u64,
     plain: &[u8],
     leniency: u8,
+    limit: usize,
     answer: &mut [u8],
 ) -> usize
-    ensures { λ r. ⌜ Wrote (now (answer .entry)) 0 (rowCountTold number (now (plain .entry)) leniency) (now (answer .exit)) r ⌝ }
+    ensures { λ r. ⌜ Wrote (now (answer .entry)) 0 (rowCountTold number (now (plain .entry)) leniency limit) (now (answer .exit)) r ⌝ }
 {
-    let options = Options::new(leniency, Options::MIN_TRAILER_COUNT);
+    let options = Options::new(leniency, Options::MIN_TRAILER_COUNT, limit);
     let found = rows::rows_counted(number, plain, options);
     let x = found.answer;
     row_layout::write_row_count(answer, x, found.rows)
@@ -36,12 +38,13 @@ pub extern "C" fn lumeviqo_row(
     number: u64,
     plain: &[u8],
     leniency: u8,
+    limit: usize,
     row: usize,
     answer: &mut [u8],
 ) -> usize
-    ensures { λ r. ⌜ Wrote (now (answer .entry)) 0 (rowTold number (now (plain .entry)) leniency row) (now (answer .exit)) r ⌝ }
+    ensures { λ r. ⌜ Wrote (now (answer .entry)) 0 (rowTold number (now (plain .entry)) leniency limit row) (now (answer .exit)) r ⌝ }
 {
-    let options = Options::new(leniency, Options::MIN_TRAILER_COUNT);
+    let options = Options::new(leniency, Options::MIN_TRAILER_COUNT, limit);
     let found = rows::row_found(number, plain, options, row);
     let x = found.answer;
     let span = found.span;
@@ -49,9 +52,15 @@ pub extern "C" fn lumeviqo_row(
 }
 
 #[no_mangle]
-pub extern "C" fn lumeviqo_rows(number: u64, plain: &[u8], leniency: u8, answer: &mut [u8]) -> usize
-    ensures { λ r. ⌜ Wrote (now (answer .entry)) 0 (rowsTold number (now (plain .entry)) leniency) (now (answer .exit)) r ⌝ }
+pub extern "C" fn lumeviqo_rows(
+    number: u64,
+    plain: &[u8],
+    leniency: u8,
+    limit: usize,
+    answer: &mut [u8],
+) -> usize
+    ensures { λ r. ⌜ Wrote (now (answer .entry)) 0 (rowsTold number (now (plain .entry)) leniency limit) (now (answer .exit)) r ⌝ }
 {
-    let options = Options::new(leniency, Options::MIN_TRAILER_COUNT);
+    let options = Options::new(leniency, Options::MIN_TRAILER_COUNT, limit);
     row_layout::write_rows(answer, number, plain, options)
 }

@@ -16,6 +16,7 @@ use Rattle.lists.specs.Counts.{count, howMany, allSame}
 use Rattle.lists.proofs.Count.{count-there}
 use Rattle.lists.proofs.Picks.{never-both}
 use Rattle.lists.proofs.Same.{are-at}
+use Rattle.answers.specs.Settings.{limitFits}
 use Rattle.summary.specs.Page.{sectorEnd, part}
 use Rattle.votes.specs.Votes.{countsOf, ballots, beats, isCommon, isCandidate, isVerified}
 use Rattle.votes.proofs.Meaning.{counts-at}
@@ -93,8 +94,8 @@ module _ (shifted : List ℕ) (bv : ℕ) (long : length shifted ≡ 4080) (small
       is v h e (yes d) = d
       is v h e (no ne) = absurd (never-both (nothing-else v h ne) e)
 
-  pub exact-asked : Asked shifted
-  exact-asked = record { long = long; bytes = bytes; few = omega (arith, one-candidate) }
+  pub exact-asked : (lim : ℕ) → limitFits lim ≡ true → Asked lim shifted
+  exact-asked lim w = record { long = long; within = w; bytes = bytes; few = omega (arith, one-candidate) }
 
   pub exact-agreed : (lim t : ℕ) → Agreed lim shifted 0 t bv
   unfolding isVerified

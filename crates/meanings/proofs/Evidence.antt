@@ -261,10 +261,11 @@ pub evidenced : Evidenced
 evidenced =
     record {
       choice =
-          λ lim number shifted anchors n o b good.
+          λ number shifted anchors n o b good.
+          let lim : ℕ = o .«search_limit» in
           let t : ℕ = o .«min_trailer_count» in
-          let c : Choice = choiceOf lim number shifted anchors n o in
-          let w : Chosen lim shifted anchors n t c = chosen-stands lim number shifted anchors n o b good in
+          let c : Choice = choiceOf number shifted anchors n o in
+          let w : Chosen lim shifted anchors n t c = chosen-stands number shifted anchors n o b good in
           subst (EvidenceTold (Supports lim shifted anchors n t (c .bv))) (sym (w .grounds ∙ listed-told lim shifted anchors n t (c .bv) (w .byte) b))
           (told lim shifted anchors n t (c .bv) _ (leads lim shifted anchors n t (c .bv) b (w .few)));
     }

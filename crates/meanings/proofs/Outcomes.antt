@@ -16,7 +16,7 @@ use Rattle.lists.proofs.Among.{among-length}
 use Rattle.lists.proofs.Booleans.{not-true, and-yes, and-left, and-right, or-no-left, or-no-right, or-yes-right}
 use Rattle.lists.proofs.Picks.{pick-case, never-both}
 use Rattle.answers.specs.Answers.{noBvs}
-use Rattle.answers.specs.Settings.{keystream}
+use Rattle.answers.specs.Settings.{keystream, limitFits}
 use Rattle.answers.specs.declared.kinds.Answer.the-variants as answer
 use Rattle.answers.specs.declared.trust.Source.the-variants as source
 use Rattle.answers.specs.declared.trust.Confidence.the-variants as confidence
@@ -70,10 +70,14 @@ module _ (lim : ℕ) (shifted anchors : List ℕ) (n t v : ℕ) where
   unfolding isDisputed
   disputed-stands h = and-left (standsFor shifted v) _ h
 
-module _ (lim number : ℕ) (shifted anchors : List ℕ) (n : ℕ) (o : Options) (long : length shifted ≡ 4080) (bytes : AllBytes shifted)
-    (few : assessment lim shifted anchors n (o .«min_trailer_count») .candidates .len ≤ 8) where
+module _ (number : ℕ) (shifted anchors : List ℕ) (n : ℕ) (o : Options) (long : length shifted ≡ 4080) (bytes : AllBytes shifted)
+    (within : limitFits (o .«search_limit») ≡ true)
+    (few : assessment (o .«search_limit») shifted anchors n (o .«min_trailer_count») .candidates .len ≤ 8) where
   abbrev t : ℕ
   t = o .«min_trailer_count»
+
+  abbrev lim : ℕ
+  lim = o .«search_limit»
 
   abbrev a : Assessment
   a = assessment lim shifted anchors n t
@@ -113,7 +117,7 @@ module _ (lim number : ℕ) (shifted anchors : List ℕ) (n : ℕ) (o : Options)
       → keystream o ≡ true
       → (h : Candidate)
       → Highest make (made-bv lim shifted anchors n t) inDispute h
-      → Meaning lim number shifted anchors n o
+      → Meaning number shifted anchors n o
       (takenOf a h source.Histogram confidence.Unverified (warning.AmbiguousCalibration (h .bv)) (bvsOf (members (Others (h .bv)) g)))
   unfolding takenOf candidateOf
   on-highest g e two k h l =
@@ -124,12 +128,13 @@ module _ (lim number : ℕ) (shifted anchors : List ℕ) (n : ℕ) (o : Options)
       λ v q d. sym (made-outranks lim shifted anchors n t m v (l .small) (q .stands .byte) bytes) ∙ l .rest v (q .stands .byte) d (q .differs) in
       subst
       (λ (x : Candidate).
-      Meaning lim number shifted anchors n o
+      Meaning number shifted anchors n o
       (takenOf a x source.Histogram confidence.Unverified (warning.AmbiguousCalibration (x .bv)) (bvsOf (members (Others (x .bv)) g))))
       (sym (l .is))
       (Meaning.ranked
       (record {
         marked = record { answered = refl; from = refl; trusted = refl; warned = refl };
+        within = within;
         lenient = k;
         stands = record { byte = l .small; candidate = disputed-stands lim shifted anchors n t m (l .passes) };
         dispute = two;
@@ -145,20 +150,21 @@ module _ (lim number : ℕ) (shifted anchors : List ℕ) (n : ℕ) (o : Options)
       (g : List Candidate)
       → g ≡ among inDispute make 256
       → 2 ≤ length g
-      → Meaning lim number shifted anchors n o (ambiguousOf number (keystream o) a g)
+      → Meaning number shifted anchors n o (ambiguousOf number (keystream o) a g)
   unfolding ambiguousOf refusedOf disputedNumber
   on-dispute g e two =
       let size : length g ≡ howMany inDispute 256 = ap length e ∙ among-length inDispute make 256 in
       let many : 2 ≤ disputedNumber lim shifted anchors n t = omega (arith, size) in
       let best : Highest make (made-bv lim shifted anchors n t) inDispute (highestOf (among inDispute make 256)) =
       highest-passes make (made-bv lim shifted anchors n t) inDispute (omega (arith, size)) in
-      pick-case (Meaning lim number shifted anchors n o) (keystream o) _ _
+      pick-case (Meaning number shifted anchors n o) (keystream o) _ _
       (λ k.
       on-highest g e many k (highestOf g) (subst (λ (l : List Candidate). Highest make (made-bv lim shifted anchors n t) inDispute (highestOf l)) (sym e) best))
       (λ k.
       Meaning.ambiguous
       (record {
         marked = record { answered = refl; from = refl; trusted = refl; warned = refl };
+        within = within;
         strict = k;
         dispute = many;
         listed = subst (λ (l : List Candidate). Lists inDispute (bvsOf l)) (sym e) (group-lists lim shifted anchors n t inDispute disputed-few);
@@ -236,15 +242,16 @@ module _ (lim number : ℕ) (shifted anchors : List ℕ) (n : ℕ) (o : Options)
           )
 
   module _ (none : NoneVerified lim shifted n t) (one : exactSectors shifted ≤ 1) where
-    on-top : isCorroborated a (make top) ≡ false → Meaning lim number shifted anchors n o (unverifiedOf number (keystream o) a (make top))
+    on-top : isCorroborated a (make top) ≡ false → Meaning number shifted anchors n o (unverifiedOf number (keystream o) a (make top))
     unfolding unverifiedOf takenOf refusedOf candidateOf
     on-top e =
-        pick-case (Meaning lim number shifted anchors n o) (keystream o) _ _
+        pick-case (Meaning number shifted anchors n o) (keystream o) _ _
         (λ k.
         Meaning.topmost
         (record {
           marked = record { answered = refl; from = refl; trusted = refl; warned = refl };
           unlisted = refl;
+          within = within;
           lenient = k;
           stands = top-stands;
           top = refl;
@@ -255,19 +262,20 @@ module _ (lim number : ℕ) (shifted anchors : List ℕ) (n : ℕ) (o : Options)
         (record {
           marked = record { answered = refl; from = refl; trusted = refl; warned = refl };
           unlisted = refl;
+          within = within;
           strict = k;
           undecided = record { unverified = none; few = one; uncorroborated = λ q. never-both e (corroborates-is q) };
         }))
 
-    on-three : Meaning lim number shifted anchors n o (ruleThree number (keystream o) a)
+    on-three : Meaning number shifted anchors n o (ruleThree number (keystream o) a)
     unfolding ruleThree takenOf candidateOf
     on-three =
         subst
         (λ (c : Candidate).
-        Meaning lim number shifted anchors n o
+        Meaning number shifted anchors n o
         (pick (isCorroborated a c) (takenOf a c source.Corroborated confidence.Corroborated warning.Nothing noBvs) (unverifiedOf number (keystream o) a c)))
         (sym top-made)
-        (pick-case (Meaning lim number shifted anchors n o) (isCorroborated a (make top))
+        (pick-case (Meaning number shifted anchors n o) (isCorroborated a (make top))
         (takenOf a (make top) source.Corroborated confidence.Corroborated warning.Nothing noBvs)
         (unverifiedOf number (keystream o) a (make top))
         (λ e.
@@ -275,6 +283,7 @@ module _ (lim number : ℕ) (shifted anchors : List ℕ) (n : ℕ) (o : Options)
         (record {
           marked = record { answered = refl; from = refl; trusted = refl; warned = refl };
           unlisted = refl;
+          within = within;
           stands = top-stands;
           unverified = none;
           corroborates = corroborated-means e;
@@ -326,15 +335,16 @@ module _ (lim number : ℕ) (shifted anchors : List ℕ) (n : ℕ) (o : Options)
 
       on-calibrated :
           leb 2 (firstOf (group Voted a) .votes) ≡ true
-          → Meaning lim number shifted anchors n o (takenOf a (firstOf (group Voted a)) source.ExactSectors confidence.Calibrated warning.Nothing noBvs)
+          → Meaning number shifted anchors n o (takenOf a (firstOf (group Voted a)) source.ExactSectors confidence.Calibrated warning.Nothing noBvs)
       unfolding takenOf candidateOf
       on-calibrated e =
-          subst (λ (c : Candidate). Meaning lim number shifted anchors n o (takenOf a c source.ExactSectors confidence.Calibrated warning.Nothing noBvs))
+          subst (λ (c : Candidate). Meaning number shifted anchors n o (takenOf a c source.ExactSectors confidence.Calibrated warning.Nothing noBvs))
           (sym first-made)
           (Meaning.exact-sectors
           (record {
             marked = record { answered = refl; from = refl; trusted = refl; warned = refl };
             unlisted = refl;
+            within = within;
             stands = record { byte = r .below; candidate = disputed-stands lim shifted anchors n t (r .at) (r .passes) };
             agreed =
                 record {
@@ -366,16 +376,16 @@ module _ (lim number : ℕ) (shifted anchors : List ℕ) (n : ℕ) (o : Options)
                   (λ v l j. never-both (none-pass inDispute 256 (omega (arith, voted-number)) v l) (voted-disputed v l j)),
             )
 
-    on-two : Meaning lim number shifted anchors n o (ruleTwo number (keystream o) a)
+    on-two : Meaning number shifted anchors n o (ruleTwo number (keystream o) a)
     unfolding ruleTwo isCalibrated
     on-two =
         let one : Choice = takenOf a (firstOf (group Voted a)) source.ExactSectors confidence.Calibrated warning.Nothing noBvs in
-        pick-case (Meaning lim number shifted anchors n o) (leb 2 (length (group Voted a))) (ambiguousOf number (keystream o) a (group Voted a))
+        pick-case (Meaning number shifted anchors n o) (leb 2 (length (group Voted a))) (ambiguousOf number (keystream o) a (group Voted a))
         (pick (isCalibrated (length (group Voted a)) (group Voted a)) one (ruleThree number (keystream o) a))
         (λ e. on-dispute (group Voted a) voted (leb-true 2 (length (group Voted a)) e))
         (λ e.
         let h : length (group Voted a) < 2 = leb-false 2 (length (group Voted a)) e in
-        pick-case (Meaning lim number shifted anchors n o) (isCalibrated (length (group Voted a)) (group Voted a)) one (ruleThree number (keystream o) a)
+        pick-case (Meaning number shifted anchors n o) (isCalibrated (length (group Voted a)) (group Voted a)) one (ruleThree number (keystream o) a)
         (λ f.
         let size : length (group Voted a) ≡ 1 = eqb-true (length (group Voted a)) 1 (and-left (eqb (length (group Voted a)) 1) _ f) in
         on-calibrated h (first-passes make inDispute blankCandidate 256 (omega (arith, voted-number))) (and-right (eqb (length (group Voted a)) 1) _ f))
@@ -466,10 +476,10 @@ module _ (lim number : ℕ) (shifted anchors : List ℕ) (n : ℕ) (o : Options)
           both-pass inDispute 256 (r .at) k (r .below) small (rival-disputed (r .at) (r .passes) .1) (rival-disputed (r .at) (r .passes) .0) itself-disputed,
         )
 
-    on-sole : Meaning lim number shifted anchors n o (soleOf number (keystream o) a (make k))
+    on-sole : Meaning number shifted anchors n o (soleOf number (keystream o) a (make k))
     unfolding soleOf takenOf candidateOf isVerified isStrong
     on-sole =
-        pick-case (Meaning lim number shifted anchors n o) (eqb (length (group (Rivals k (a .top)) a)) 0)
+        pick-case (Meaning number shifted anchors n o) (eqb (length (group (Rivals k (a .top)) a)) 0)
         (takenOf a (make k) source.TrailerRowCount confidence.Verified warning.Nothing noBvs)
         (ambiguousOf number (keystream o) a (group (Contest k (a .top)) a))
         (λ e.
@@ -482,6 +492,7 @@ module _ (lim number : ℕ) (shifted anchors : List ℕ) (n : ℕ) (o : Options)
         (record {
           marked = record { answered = refl; from = refl; trusted = refl; warned = refl };
           unlisted = refl;
+          within = within;
           sole =
               record {
                 stands = record { byte = small; candidate = k-stands };
@@ -497,53 +508,66 @@ module _ (lim number : ℕ) (shifted anchors : List ℕ) (n : ℕ) (o : Options)
         unanchored : (v : ℕ) → v ≡ top → (isIn v anchors && eqb v top) ≡ false → isIn v anchors ≡ false
         unanchored v e f = not-true (isIn v anchors) (λ p. never-both f (and-yes (isIn v anchors) (eqb v top) p (eq-eqb v top e)))
 
-  on-one : Meaning lim number shifted anchors n o (ruleOne number (keystream o) a)
+  on-one : Meaning number shifted anchors n o (ruleOne number (keystream o) a)
   unfolding ruleOne
   on-one =
       let rest : Choice =
       pick (eqb (length (group Verified a)) 1) (soleOf number (keystream o) a (firstOf (group Verified a))) (ruleTwo number (keystream o) a) in
-      pick-case (Meaning lim number shifted anchors n o) (leb 2 (length (group Verified a))) (ambiguousOf number (keystream o) a (group Verified a)) rest
+      pick-case (Meaning number shifted anchors n o) (leb 2 (length (group Verified a))) (ambiguousOf number (keystream o) a (group Verified a)) rest
       (λ e.
       let two : 2 ≤ length (group Verified a) = leb-true 2 (length (group Verified a)) e in
       on-dispute (group Verified a) (several (omega (arith, verified-count))) two)
       (λ e.
-      pick-case (Meaning lim number shifted anchors n o) (eqb (length (group Verified a)) 1) (soleOf number (keystream o) a (firstOf (group Verified a)))
+      pick-case (Meaning number shifted anchors n o) (eqb (length (group Verified a)) 1) (soleOf number (keystream o) a (firstOf (group Verified a)))
       (ruleTwo number (keystream o) a) sole
       (λ f.
       on-two
       (omega (arith, verified-count, leb-false 2 (length (group Verified a)) e, eqb-false (length (group Verified a)) 1 f))))
     where
-      sole : eqb (length (group Verified a)) 1 ≡ true → Meaning lim number shifted anchors n o (soleOf number (keystream o) a (firstOf (group Verified a)))
+      sole : eqb (length (group Verified a)) 1 ≡ true → Meaning number shifted anchors n o (soleOf number (keystream o) a (firstOf (group Verified a)))
       sole f =
           let one : length (group Verified a) ≡ 1 = eqb-true (length (group Verified a)) 1 f in
           let some : 0 < howMany standsTested 256 = omega (arith, one, ap length verified, among-length standsTested make 256) in
           let r : First make standsTested blankCandidate 256 = first-passes make standsTested blankCandidate 256 some in
-          subst (λ (c : Candidate). Meaning lim number shifted anchors n o (soleOf number (keystream o) a c)) (sym (ap firstOf verified ∙ r .first))
+          subst (λ (c : Candidate). Meaning number shifted anchors n o (soleOf number (keystream o) a c)) (sym (ap firstOf verified ∙ r .first))
           (on-sole (r .at) (r .below) (r .passes) (sym verified-count ∙ one))
 
 -- ---- every choice
 
 pub every-choice :
-    (lim number : ℕ) (shifted anchors : List ℕ) (n : ℕ) (o : Options)
+    (number : ℕ) (shifted anchors : List ℕ) (n : ℕ) (o : Options)
     → AllBytes shifted
-    → Meaning lim number shifted anchors n o (choiceOf lim number shifted anchors n o)
+    → Meaning number shifted anchors n o (choiceOf number shifted anchors n o)
 unfolding choiceOf chosen refusedOf
-every-choice lim number shifted anchors n o bytes =
+every-choice number shifted anchors n o bytes =
+    let lim : ℕ = o .«search_limit» in
     let a : Assessment = assessment lim shifted anchors n (o .«min_trailer_count») in
-    pick-case (Meaning lim number shifted anchors n o) (eqb (length shifted) 4080) (chosen number (keystream o) a)
+    pick-case (Meaning number shifted anchors n o) (eqb (length shifted) 4080)
+    (pick (limitFits lim) (chosen number (keystream o) a) (refusedOf (answer.LimitOutOfRange lim) noBvs))
     (refusedOf (answer.WrongBufferLength (length shifted)) noBvs)
     (λ e.
-    pick-case (Meaning lim number shifted anchors n o) (ltb 8 (a .candidates .len)) (refusedOf (answer.TooManyCandidates number) noBvs)
+    pick-case (Meaning number shifted anchors n o) (limitFits lim) (chosen number (keystream o) a) (refusedOf (answer.LimitOutOfRange lim) noBvs)
+    (λ w.
+    pick-case (Meaning number shifted anchors n o) (ltb 8 (a .candidates .len)) (refusedOf (answer.TooManyCandidates number) noBvs)
     (ruleOne number (keystream o) a)
     (λ f.
     Meaning.too-many
     (record {
       marked = record { answered = refl; from = refl; trusted = refl; warned = refl };
       unlisted = refl;
+      within = w;
       many = many-candidates lim shifted anchors n (o .«min_trailer_count») (ltb-true 8 (a .candidates .len) f);
     }))
     (λ f.
-    on-one lim number shifted anchors n o (eqb-true (length shifted) 4080 e) bytes (ltb-false 8 (a .candidates .len) f)))
+    on-one number shifted anchors n o (eqb-true (length shifted) 4080 e) bytes w (ltb-false 8 (a .candidates .len) f)))
+    (λ w.
+    Meaning.out-of-range
+    (record {
+      marked = record { answered = refl; from = refl; trusted = refl; warned = refl };
+      unlisted = refl;
+      long = eqb-true (length shifted) 4080 e;
+      outside = w;
+    })))
     (λ e.
     Meaning.wrong-length
     (record {

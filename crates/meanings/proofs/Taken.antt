@@ -15,7 +15,7 @@ use Rattle.lists.proofs.Booleans.{or-yes-right}
 use Rattle.lists.proofs.Keep.{keep-among}
 use Rattle.lists.proofs.Picks.{pick-case, never-both}
 use Rattle.answers.specs.Answers.{isAccepted, noBvs}
-use Rattle.answers.specs.Settings.{keystream}
+use Rattle.answers.specs.Settings.{keystream, limitFits}
 use Rattle.answers.specs.declared.kinds.Answer.{Answer}
 use Rattle.answers.specs.declared.kinds.Answer.the-variants as answer
 use Rattle.answers.specs.declared.kinds.Bvs.{Bvs}
@@ -234,49 +234,60 @@ module _ (lim : ℕ) (shifted anchors : List ℕ) (n t : ℕ) where
 pub record Chosen (lim : ℕ) (shifted anchors : List ℕ) (n t : ℕ) (c : Choice) : Type 0 where
   pub few : assessmentOf lim shifted anchors n t .candidates .len ≤ 8
   pub long : length shifted ≡ 4080
+  pub within : limitFits lim ≡ true
   pub byte : c .bv < 256
   pub stands : standsFor shifted (c .bv) ≡ true
   pub grounds : c .grounds ≡ groundsOf (assessmentOf lim shifted anchors n t) (candidateOf lim shifted anchors n t (c .bv))
 
-module _ (lim number : ℕ) (shifted anchors : List ℕ) (n : ℕ) (o : Options) (b : AllBytes shifted) where
+module _ (number : ℕ) (shifted anchors : List ℕ) (n : ℕ) (o : Options) (b : AllBytes shifted) where
   abbrev t : ℕ
   t = o .«min_trailer_count»
+
+  abbrev lim : ℕ
+  lim = o .«search_limit»
 
   abbrev a : Assessment
   a = assessmentOf lim shifted anchors n t
 
   -- an accepted choice is one by the rules, among at most eight candidates
   record Ruled (c : Choice) : Type 0 where
-    ruled : isAccepted (c .answer) ≡ true → (length shifted ≡ 4080) × (a .candidates .len ≤ 8) × (c ≡ ruleOne number (keystream o) a)
+    ruled :
+        isAccepted (c .answer) ≡ true
+        → (length shifted ≡ 4080) × (limitFits lim ≡ true) × (a .candidates .len ≤ 8) × (c ≡ ruleOne number (keystream o) a)
 
-  ruled-choice : Ruled (choiceOf lim number shifted anchors n o)
+  ruled-choice : Ruled (choiceOf number shifted anchors n o)
   unfolding choiceOf chosen refusedOf
   ruled-choice =
-      pick-case Ruled (eqb (length shifted) 4080) (chosen number (keystream o) a) (refusedOf (answer.WrongBufferLength (length shifted)) noBvs)
+      pick-case Ruled (eqb (length shifted) 4080) (pick (limitFits lim) (chosen number (keystream o) a) (refusedOf (answer.LimitOutOfRange lim) noBvs))
+      (refusedOf (answer.WrongBufferLength (length shifted)) noBvs)
       (λ e.
+      pick-case Ruled (limitFits lim) (chosen number (keystream o) a) (refusedOf (answer.LimitOutOfRange lim) noBvs)
+      (λ w.
       pick-case Ruled (ltb 8 (a .candidates .len)) (refusedOf (answer.TooManyCandidates number) noBvs) (ruleOne number (keystream o) a)
       (λ f. record { ruled = λ q. absurd (never-both refl q) })
       (λ f.
       record {
-        ruled = λ q. (eqb-true (length shifted) 4080 e, omega (arith, ltb-false 8 (a .candidates .len) f), refl);
+        ruled = λ q. (eqb-true (length shifted) 4080 e, w, omega (arith, ltb-false 8 (a .candidates .len) f), refl);
       }))
+      (λ w. record { ruled = λ q. absurd (never-both refl q) }))
       (λ e. record { ruled = λ q. absurd (never-both refl q) })
 
   pub chosen-stands :
-      isAccepted (choiceOf lim number shifted anchors n o .answer) ≡ true
-      → Chosen lim shifted anchors n t (choiceOf lim number shifted anchors n o)
+      isAccepted (choiceOf number shifted anchors n o .answer) ≡ true
+      → Chosen lim shifted anchors n t (choiceOf number shifted anchors n o)
   chosen-stands good =
-      let c : Choice = choiceOf lim number shifted anchors n o in
+      let c : Choice = choiceOf number shifted anchors n o in
       let r = ruled-choice .ruled good in
       let long : length shifted ≡ 4080 = r .0 in
-      let few : a .candidates .len ≤ 8 = r .1 in
-      let rule : c ≡ ruleOne number (keystream o) a = r .2 in
+      let few : a .candidates .len ≤ 8 = r .2 in
+      let rule : c ≡ ruleOne number (keystream o) a = r .3 in
       let some : 0 < length shifted = omega arith in
       let k : Taking (Proper lim shifted anchors n t) a c =
       subst (Takes (Proper lim shifted anchors n t) a) (sym rule) (takes-ruled lim shifted anchors n t few some b number (keystream o)) .made good in
       record {
         few = few;
         long = long;
+        within = r .1;
         byte = subst (λ (v : ℕ). v < 256) (sym (k .bv)) (k .holds .byte);
         stands = ap (standsFor shifted) (k .bv) ∙ k .holds .stands;
         grounds =

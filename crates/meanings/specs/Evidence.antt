@@ -66,8 +66,8 @@ module _ (lim : ℕ) (shifted anchors : List ℕ) (n t bv : ℕ) where
 
 pub record Evidenced : Type 0 where
   pub choice :
-      (lim number : ℕ) (shifted anchors : List ℕ) (n : ℕ) (o : Options)
+      (number : ℕ) (shifted anchors : List ℕ) (n : ℕ) (o : Options)
       → AllBytes shifted
-      → let c : Choice = choiceOf lim number shifted anchors n o in
+      → let c : Choice = choiceOf number shifted anchors n o in
       isAccepted (c .answer) ≡ true
-      → EvidenceTold (Supports lim shifted anchors n (o .«min_trailer_count») (c .bv)) (c .grounds)
+      → EvidenceTold (Supports (o .«search_limit») shifted anchors n (o .«min_trailer_count») (c .bv)) (c .grounds)

@@ -1,5 +1,5 @@
 -- What a choice of bv means, in words of the page: by what its source rests on, why it is refused, and among which values it is disputed. v is
--- a value of bv, n the stored row count, t the least that is tested. Assumes nothing.
+-- a value of bv, n the stored row count, t the least that is tested, lim the search limit. Assumes nothing.
 use Prim.Native.Nat.{ℕ, _≤_, _<_}
 use mathlib.Core.Path.{_≡_}
 use mathlib.Core.Bool.{Bool, true, false, not, _&&_, _||_}
@@ -12,7 +12,7 @@ use Rattle.lists.specs.Bytes.{byteAt, plainOf, AllBytes}
 use Rattle.lists.specs.Counts.{howMany, isIn}
 use Rattle.lists.specs.Pieces.{each}
 use Rattle.answers.specs.Answers.{numberOf, noBvs}
-use Rattle.answers.specs.Settings.{keystream}
+use Rattle.answers.specs.Settings.{keystream, limitFits}
 use Rattle.answers.specs.declared.kinds.Answer.{Answer}
 use Rattle.answers.specs.declared.kinds.Answer.the-variants as answer
 use Rattle.answers.specs.declared.kinds.Bvs.{Bvs}
@@ -119,9 +119,10 @@ pub record Undecided (lim : ℕ) (shifted anchors : List ℕ) (n t : ℕ) : Type
   pub few : exactSectors shifted ≤ 1
   pub uncorroborated : Corroborates shifted anchors (topValue shifted) → ⊥
 
--- the rules are asked for 4,080 bytes with eight candidates at most
-pub record Asked (shifted : List ℕ) : Type 0 where
+-- the rules are asked for 4,080 bytes with eight candidates at most, and a limit in its range
+pub record Asked (lim : ℕ) (shifted : List ℕ) : Type 0 where
   pub long : length shifted ≡ 4080
+  pub within : limitFits lim ≡ true
   pub bytes : AllBytes shifted
   pub few : candidateNumber shifted ≤ 8
 
@@ -137,20 +138,25 @@ pub record Marked (c : Choice) (x : Answer) (s : Source) (k : Confidence) (w : W
 abbrev pub RefusedWith : Choice → Answer → Type 0
 RefusedWith c x = Marked c x source.Refused confidence.Refused warning.Nothing
 
-module _ (lim number : ℕ) (shifted anchors : List ℕ) (n : ℕ) (o : Options) (c : Choice) where
+module _ (number : ℕ) (shifted anchors : List ℕ) (n : ℕ) (o : Options) (c : Choice) where
   abbrev t : ℕ
   t = o .«min_trailer_count»
+
+  abbrev lim : ℕ
+  lim = o .«search_limit»
 
   -- source 1
   pub record ByRowCount : Type 0 where
     pub marked : Marked c answer.Accepted source.TrailerRowCount confidence.Verified warning.Nothing
     pub unlisted : c .group ≡ noBvs
+    pub within : limitFits lim ≡ true
     pub sole : SoleVerified lim shifted anchors n t (c .bv)
 
   -- source 2
   pub record ByExactSectors : Type 0 where
     pub marked : Marked c answer.Accepted source.ExactSectors confidence.Calibrated warning.Nothing
     pub unlisted : c .group ≡ noBvs
+    pub within : limitFits lim ≡ true
     pub stands : Stands shifted (c .bv)
     pub agreed : Agreed lim shifted n t (c .bv)
     pub votes : votesFor shifted (c .bv) ≡ exactSectors shifted
@@ -159,6 +165,7 @@ module _ (lim number : ℕ) (shifted anchors : List ℕ) (n : ℕ) (o : Options)
   pub record ByCorroboration : Type 0 where
     pub marked : Marked c answer.Accepted source.Corroborated confidence.Corroborated warning.Nothing
     pub unlisted : c .group ≡ noBvs
+    pub within : limitFits lim ≡ true
     pub stands : Stands shifted (c .bv)
     pub unverified : NoneVerified lim shifted n t
     pub corroborates : Corroborates shifted anchors (c .bv)
@@ -166,6 +173,7 @@ module _ (lim number : ℕ) (shifted anchors : List ℕ) (n : ℕ) (o : Options)
   -- source 3 with warning 5: a dispute let through. bv is the disputed value that comes before every other, and the others stand beside it
   pub record ByRank : Type 0 where
     pub marked : Marked c answer.Accepted source.Histogram confidence.Unverified (warning.AmbiguousCalibration (c .bv))
+    pub within : limitFits lim ≡ true
     pub lenient : keystream o ≡ true
     pub stands : Stands shifted (c .bv)
     pub dispute : 2 ≤ disputedNumber lim shifted anchors n t
@@ -181,6 +189,7 @@ module _ (lim number : ℕ) (shifted anchors : List ℕ) (n : ℕ) (o : Options)
   -- answer 5, with what is disputed beside it
   pub record Ambiguous : Type 0 where
     pub marked : RefusedWith c (answer.AmbiguousCalibration number)
+    pub within : limitFits lim ≡ true
     pub strict : keystream o ≡ false
     pub dispute : 2 ≤ disputedNumber lim shifted anchors n t
     pub listed : Lists (isDisputed lim shifted anchors n t) (c .group)
@@ -189,6 +198,7 @@ module _ (lim number : ℕ) (shifted anchors : List ℕ) (n : ℕ) (o : Options)
   pub record ByTop : Type 0 where
     pub marked : Marked c answer.Accepted source.Histogram confidence.Unverified (warning.UnverifiedKeystream (c .bv))
     pub unlisted : c .group ≡ noBvs
+    pub within : limitFits lim ≡ true
     pub lenient : keystream o ≡ true
     pub stands : Stands shifted (c .bv)
     pub top : c .bv ≡ topValue shifted
@@ -198,14 +208,22 @@ module _ (lim number : ℕ) (shifted anchors : List ℕ) (n : ℕ) (o : Options)
   pub record Unverified : Type 0 where
     pub marked : RefusedWith c (answer.KeystreamUnverified number (topValue shifted))
     pub unlisted : c .group ≡ noBvs
+    pub within : limitFits lim ≡ true
     pub strict : keystream o ≡ false
     pub undecided : Undecided lim shifted anchors n t
 
-  -- answer 15, and answer 2
+  -- answer 15, answer 20, and answer 2
   pub record TooMany : Type 0 where
     pub marked : RefusedWith c (answer.TooManyCandidates number)
     pub unlisted : c .group ≡ noBvs
+    pub within : limitFits lim ≡ true
     pub many : 8 < candidateNumber shifted
+
+  pub record OutOfRange : Type 0 where
+    pub marked : RefusedWith c (answer.LimitOutOfRange lim)
+    pub unlisted : c .group ≡ noBvs
+    pub long : length shifted ≡ 4080
+    pub outside : limitFits lim ≡ false
 
   pub record WrongLength : Type 0 where
     pub marked : RefusedWith c (answer.WrongBufferLength (length shifted))
@@ -222,6 +240,7 @@ module _ (lim number : ℕ) (shifted anchors : List ℕ) (n : ℕ) (o : Options)
     ambiguous : Ambiguous → Meaning
     unverified : Unverified → Meaning
     too-many : TooMany → Meaning
+    out-of-range : OutOfRange → Meaning
     wrong-length : WrongLength → Meaning
 
   -- what its source, or its answer, says of the page
@@ -233,45 +252,48 @@ module _ (lim number : ℕ) (shifted anchors : List ℕ) (n : ℕ) (o : Options)
     pub ambiguous : numberOf (c .answer) ≡ 5 → Ambiguous
     pub unverified : numberOf (c .answer) ≡ 6 → Unverified
     pub too-many : numberOf (c .answer) ≡ 15 → TooMany
+    pub out-of-range : numberOf (c .answer) ≡ 20 → OutOfRange
     pub wrong-length : numberOf (c .answer) ≡ 2 → WrongLength
 
   -- which page has which choice
   pub record Made : Type 0 where
-    pub row-count : Asked shifted → (bv : ℕ) → SoleVerified lim shifted anchors n t bv → ByRowCount × (c .bv ≡ bv)
-    pub exact-sectors : Asked shifted → (bv : ℕ) → Agreed lim shifted n t bv → ByExactSectors × (c .bv ≡ bv)
+    pub row-count : Asked lim shifted → (bv : ℕ) → SoleVerified lim shifted anchors n t bv → ByRowCount × (c .bv ≡ bv)
+    pub exact-sectors : Asked lim shifted → (bv : ℕ) → Agreed lim shifted n t bv → ByExactSectors × (c .bv ≡ bv)
     pub corroborated :
-        Asked shifted
+        Asked lim shifted
         → (bv : ℕ)
         → NoneVerified lim shifted n t
         → Corroborates shifted anchors bv
         → ByCorroboration × (c .bv ≡ bv)
-    pub ranked : Asked shifted → 2 ≤ disputedNumber lim shifted anchors n t → keystream o ≡ true → ByRank
-    pub ambiguous : Asked shifted → 2 ≤ disputedNumber lim shifted anchors n t → keystream o ≡ false → Ambiguous
-    pub topmost : Asked shifted → Undecided lim shifted anchors n t → keystream o ≡ true → ByTop
-    pub unverified : Asked shifted → Undecided lim shifted anchors n t → keystream o ≡ false → Unverified
-    pub too-many : length shifted ≡ 4080 → 8 < candidateNumber shifted → TooMany
+    pub ranked : Asked lim shifted → 2 ≤ disputedNumber lim shifted anchors n t → keystream o ≡ true → ByRank
+    pub ambiguous : Asked lim shifted → 2 ≤ disputedNumber lim shifted anchors n t → keystream o ≡ false → Ambiguous
+    pub topmost : Asked lim shifted → Undecided lim shifted anchors n t → keystream o ≡ true → ByTop
+    pub unverified : Asked lim shifted → Undecided lim shifted anchors n t → keystream o ≡ false → Unverified
+    pub too-many : length shifted ≡ 4080 → limitFits lim ≡ true → 8 < candidateNumber shifted → TooMany
+    pub out-of-range : length shifted ≡ 4080 → limitFits lim ≡ false → OutOfRange
     pub wrong-length : (length shifted ≡ 4080 → ⊥) → WrongLength
 
 -- ---- the theorems
 
 pub record ChoiceMeans : Type 0 where
-  -- every choice is one of the nine; so its marks say what holds of the page, and what holds of the page decides it
+  -- every choice is one of the ten; so its marks say what holds of the page, and what holds of the page decides it
   pub every :
-      (lim number : ℕ) (shifted anchors : List ℕ) (n : ℕ) (o : Options)
+      (number : ℕ) (shifted anchors : List ℕ) (n : ℕ) (o : Options)
       → AllBytes shifted
-      → Meaning lim number shifted anchors n o (choiceOf lim number shifted anchors n o)
+      → Meaning number shifted anchors n o (choiceOf number shifted anchors n o)
   pub said :
-      (lim number : ℕ) (shifted anchors : List ℕ) (n : ℕ) (o : Options)
+      (number : ℕ) (shifted anchors : List ℕ) (n : ℕ) (o : Options)
       → AllBytes shifted
-      → Said lim number shifted anchors n o (choiceOf lim number shifted anchors n o)
+      → Said number shifted anchors n o (choiceOf number shifted anchors n o)
   pub made :
-      (lim number : ℕ) (shifted anchors : List ℕ) (n : ℕ) (o : Options)
-      → Made lim number shifted anchors n o (choiceOf lim number shifted anchors n o)
-  -- eight exact sectors that vote for one value, and no row count: it is taken, whatever the anchors and the options
+      (number : ℕ) (shifted anchors : List ℕ) (n : ℕ) (o : Options)
+      → Made number shifted anchors n o (choiceOf number shifted anchors n o)
+  -- eight exact sectors that vote for one value, and no row count: it is taken, whatever the anchors and the options, where the limit is in its range
   pub all-exact :
-      (lim number : ℕ) (shifted anchors : List ℕ) (o : Options) (bv : ℕ)
+      (number : ℕ) (shifted anchors : List ℕ) (o : Options) (bv : ℕ)
       → length shifted ≡ 4080
+      → limitFits (o .«search_limit») ≡ true
       → bv < 256
       → ((s : ℕ) → s < 8 → (isExact shifted s ≡ true) × (exactValue shifted s ≡ bv))
-      → let c : Choice = choiceOf lim number shifted anchors 0 o in
-      ByExactSectors lim number shifted anchors 0 o c × (c .bv ≡ bv)
+      → let c : Choice = choiceOf number shifted anchors 0 o in
+      ByExactSectors number shifted anchors 0 o c × (c .bv ≡ bv)

@@ -6,7 +6,7 @@ use mathlib.Core.List.{List}
 use lib.ListN.{length}
 use Rattle.lists.specs.Bytes.{plainOf}
 use Rattle.answers.specs.Answers.{numberOf, noBvs}
-use Rattle.answers.specs.Settings.{keystream}
+use Rattle.answers.specs.Settings.{keystream, limitFits}
 use Rattle.answers.specs.Trust.{noGrounds}
 use Rattle.answers.specs.declared.kinds.Answer.{Answer}
 use Rattle.answers.specs.declared.kinds.Answer.the-variants as answer
@@ -48,9 +48,12 @@ module _ (lim bv : ℕ) (shifted : List ℕ) (n t : ℕ) where
   Backs (evidence.ZeroMass zeros lead) = ⊥
   Backs evidence.Unallocated = ⊥
 
-module _ (lim number bv : ℕ) (shifted : List ℕ) (n : ℕ) (o : Options) (s : Choice) where
+module _ (number bv : ℕ) (shifted : List ℕ) (n : ℕ) (o : Options) (s : Choice) where
   abbrev t : ℕ
   t = o .«min_trailer_count»
+
+  abbrev lim : ℕ
+  lim = o .«search_limit»
 
   -- it is taken, so far trusted and with such a warning, and its evidence is all that holds
   pub record TakenAs (k : Confidence) (w : WarningKind) : Type 0 where
@@ -74,45 +77,76 @@ module _ (lim number bv : ℕ) (shifted : List ℕ) (n : ℕ) (o : Options) (s :
 
   -- one of these
   pub data SuppliedMeaning : Type 0 where
-    verified : length shifted ≡ 4080 → passes lim bv shifted n t ≡ true → TakenAs confidence.Verified warning.Nothing → SuppliedMeaning
+    verified :
+        length shifted ≡ 4080
+        → limitFits lim ≡ true
+        → passes lim bv shifted n t ≡ true
+        → TakenAs confidence.Verified warning.Nothing
+        → SuppliedMeaning
     calibrated :
         length shifted ≡ 4080
+        → limitFits lim ≡ true
         → passes lim bv shifted n t ≡ false
         → Calibrates shifted bv
         → TakenAs confidence.Calibrated warning.Nothing
         → SuppliedMeaning
     unverified :
         length shifted ≡ 4080
+        → limitFits lim ≡ true
         → Unbacked lim bv shifted n t
         → keystream o ≡ true
         → TakenAs confidence.Unverified (warning.UnverifiedKeystream bv)
         → SuppliedMeaning
-    refused : length shifted ≡ 4080 → Unbacked lim bv shifted n t → keystream o ≡ false → RefusedAs (answer.KeystreamUnverified number bv) → SuppliedMeaning
+    refused :
+        length shifted ≡ 4080
+        → limitFits lim ≡ true
+        → Unbacked lim bv shifted n t
+        → keystream o ≡ false
+        → RefusedAs (answer.KeystreamUnverified number bv)
+        → SuppliedMeaning
+    out-of-range : length shifted ≡ 4080 → limitFits lim ≡ false → RefusedAs (answer.LimitOutOfRange lim) → SuppliedMeaning
     wrong-length : (length shifted ≡ 4080 → ⊥) → RefusedAs (answer.WrongBufferLength (length shifted)) → SuppliedMeaning
 
   -- what its confidence and its answer say of the page
   pub record SuppliedSaid : Type 0 where
+    pub accepted : numberOf (s .answer) ≡ 0 → (length shifted ≡ 4080) × (limitFits lim ≡ true)
     pub verified : s .confidence ≡ confidence.Verified → passes lim bv shifted n t ≡ true
     pub calibrated : s .confidence ≡ confidence.Calibrated → (passes lim bv shifted n t ≡ false) × Calibrates shifted bv
     pub unverified : s .confidence ≡ confidence.Unverified → Unbacked lim bv shifted n t × (keystream o ≡ true)
     pub refused : numberOf (s .answer) ≡ 6 → Unbacked lim bv shifted n t × (keystream o ≡ false)
+    pub out-of-range : numberOf (s .answer) ≡ 20 → (length shifted ≡ 4080) × (limitFits lim ≡ false)
     pub wrong-length : numberOf (s .answer) ≡ 2 → length shifted ≡ 4080 → ⊥
 
   -- what a page makes of it
   pub record SuppliedMade : Type 0 where
-    pub verified : length shifted ≡ 4080 → passes lim bv shifted n t ≡ true → TakenAs confidence.Verified warning.Nothing
+    pub verified : length shifted ≡ 4080 → limitFits lim ≡ true → passes lim bv shifted n t ≡ true → TakenAs confidence.Verified warning.Nothing
     pub calibrated :
-        length shifted ≡ 4080 → passes lim bv shifted n t ≡ false → Calibrates shifted bv → TakenAs confidence.Calibrated warning.Nothing
-    pub unverified : length shifted ≡ 4080 → Unbacked lim bv shifted n t → keystream o ≡ true → TakenAs confidence.Unverified (warning.UnverifiedKeystream bv)
-    pub refused : length shifted ≡ 4080 → Unbacked lim bv shifted n t → keystream o ≡ false → RefusedAs (answer.KeystreamUnverified number bv)
+        length shifted ≡ 4080
+        → limitFits lim ≡ true
+        → passes lim bv shifted n t ≡ false
+        → Calibrates shifted bv
+        → TakenAs confidence.Calibrated warning.Nothing
+    pub unverified :
+        length shifted ≡ 4080
+        → limitFits lim ≡ true
+        → Unbacked lim bv shifted n t
+        → keystream o ≡ true
+        → TakenAs confidence.Unverified (warning.UnverifiedKeystream bv)
+    pub refused :
+        length shifted ≡ 4080
+        → limitFits lim ≡ true
+        → Unbacked lim bv shifted n t
+        → keystream o ≡ false
+        → RefusedAs (answer.KeystreamUnverified number bv)
+    pub out-of-range : length shifted ≡ 4080 → limitFits lim ≡ false → RefusedAs (answer.LimitOutOfRange lim)
     pub wrong-length : (length shifted ≡ 4080 → ⊥) → RefusedAs (answer.WrongBufferLength (length shifted))
 
 pub record SuppliedMeans : Type 0 where
-  -- every supplied bv is one of the five; so its marks say what holds of the page, and what holds of the page decides it
+  -- every supplied bv is one of the six; so its marks say what holds of the page, and what holds of the page decides it
   pub every :
-      (lim number bv : ℕ) (shifted : List ℕ) (n : ℕ) (o : Options)
-      → SuppliedMeaning lim number bv shifted n o (suppliedOf lim number bv shifted n o)
+      (number bv : ℕ) (shifted : List ℕ) (n : ℕ) (o : Options)
+      → SuppliedMeaning number bv shifted n o (suppliedOf number bv shifted n o)
   pub said :
-      (lim number bv : ℕ) (shifted : List ℕ) (n : ℕ) (o : Options) → SuppliedSaid lim number bv shifted n o (suppliedOf lim number bv shifted n o)
+      (number bv : ℕ) (shifted : List ℕ) (n : ℕ) (o : Options) → SuppliedSaid number bv shifted n o (suppliedOf number bv shifted n o)
   pub made :
-      (lim number bv : ℕ) (shifted : List ℕ) (n : ℕ) (o : Options) → SuppliedMade lim number bv shifted n o (suppliedOf lim number bv shifted n o)
+      (number bv : ℕ) (shifted : List ℕ) (n : ℕ) (o : Options) → SuppliedMade number bv shifted n o (suppliedOf number bv shifted n o)

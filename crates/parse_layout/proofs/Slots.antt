@@ -20,7 +20,7 @@ pub padded-long : (bytes : List ℕ) → length bytes ≤ slotsSize → length (
 padded-long bytes h = length-append bytes (replicate (slotsSize - length bytes) 0) ∙ omega (arith, length-replicate {A = ℕ} (slotsSize - length bytes) 0)
 
 -- the table of a directory has its slots, and zeros behind them
-module _ (plain : List ℕ) (start count : ℕ) (few : count ≤ 384) where
+module _ (plain : List ℕ) (start count : ℕ) (few : count ≤ 1024) where
   abbrev slots : List ℕ
   slots = slotsOf plain start count
 
@@ -29,12 +29,12 @@ module _ (plain : List ℕ) (start count : ℕ) (few : count ≤ 384) where
 
   table-at : (k : ℕ) → k < count → byteAt (tableOf slots) k ≡ pairAt plain (start + 2 * k)
   table-at k h =
-      List·getD-append slots (replicate (384 - length slots) 0) 0 k (omega (arith, many)) ∙ each-at (λ j. pairAt plain (start + 2 * j)) count k 0 h
+      List·getD-append slots (replicate (1024 - length slots) 0) 0 k (omega (arith, many)) ∙ each-at (λ j. pairAt plain (start + 2 * j)) count k 0 h
 
   table-behind : (k : ℕ) → count ≤ k → byteAt (tableOf slots) k ≡ 0
   table-behind k h =
       let e : k ≡ length slots + (k - count) = omega (arith, many) in
-      ap (byteAt (tableOf slots)) e ∙ getD-append-add slots (replicate (384 - length slots) 0) (k - count) 0 ∙ zeros-at (384 - length slots) (k - count)
+      ap (byteAt (tableOf slots)) e ∙ getD-append-add slots (replicate (1024 - length slots) 0) (k - count) 0 ∙ zeros-at (1024 - length slots) (k - count)
 
   pub slots-padded :
       (part : List ℕ)
@@ -46,4 +46,4 @@ module _ (plain : List ℕ) (start count : ℕ) (few : count ≤ 384) where
   slots-padded part bytes h e =
       let n : length part ≡ 2 * count = ap length e ∙ length-take-le (2 * count) (drop start plain) (omega (arith, length-drop start plain)) in
       ap (λ (u : List ℕ). u ++ replicate (slotsSize - length part) 0) (e ∙ sym (page-bytes (tableOf slots) plain start bytes count h table-at))
-      ∙ pairs-padded (tableOf slots) count (slotsSize - length part) 384 few (omega arith) table-behind
+      ∙ pairs-padded (tableOf slots) count (slotsSize - length part) 1024 few (omega arith) table-behind

@@ -11,7 +11,6 @@ use Rattle.lists.specs.Bytes.{byteAt}
 use Rattle.lists.specs.Pieces.{joined}
 use Rattle.answers.specs.Warns.{blankWarning}
 use Rattle.answers.specs.declared.notices.Warning.{Warning}
-use Rattle.slots.specs.Slots.{searchLimit}
 use Rattle.directory.specs.Directory.{slotsOf, Sound}
 use Rattle.slotted.specs.Locations.{locatedOf}
 use Rattle.slotted.specs.Parses.{tableOf, parsedOf, SaysTheParse}
@@ -34,7 +33,7 @@ use Rattle.parse_layout.proofs.Slots.{slots-padded}
 pub found-written :
     (plain : List ℕ) (l : Listed) {out first after : List ℕ} {at p next : ℕ}
     → Sound plain (l .start) (l .count)
-    → l .count ≤ 384
+    → l .count ≤ 1024
     → ((i : ℕ) → byteAt plain i < 256)
     → Put out at (listedFields l) first p
     → Wrote first p (paddedSlots (take (l .start + 2 * l .count - l .start) (drop (l .start) plain))) after next
@@ -84,17 +83,17 @@ said-is plain l p s =
     (ap₂ (λ (n : ℕ) (fs : List Field). little 2 n ∷ fs) (s .warnings) (sym (first-three (p .warnings .items) _ _ _ (s .first-three))))
 
 pub parse-written :
-    (number : ℕ) (plain : List ℕ) (lenient : Bool) (small : byteAt plain 0xFF0 < 256) (l : Located) (e : l ≡ locatedOf searchLimit number plain lenient)
+    (lim number : ℕ) (plain : List ℕ) (lenient : Bool) (small : byteAt plain 0xFF0 < 256) (l : Located) (e : l ≡ locatedOf lim number plain lenient)
     {out first second after : List ℕ} {p q next : ℕ}
     → Put out 0 (answerFields (l .answer)) first p
     → Wrote first p (layoutBytes (foundFields plain (l .listed))) second q
     → Put second q (givenFields (l .warnings)) after next
     → parseSize ≤ length out
-    → Wrote out 0 (parseBytes (parsedOf searchLimit number plain lenient)) after next
-parse-written number plain lenient small l e {out} {first} {second} {after} {p} {q} {next} a d g room =
-    let parsed : Parsed = parsedOf searchLimit number plain lenient in
+    → Wrote out 0 (parseBytes (parsedOf lim number plain lenient)) after next
+parse-written lim number plain lenient small l e {out} {first} {second} {after} {p} {q} {next} a d g room =
+    let parsed : Parsed = parsedOf lim number plain lenient in
     layout-put (parse-size parsed)
-    (subst (λ (fs : List Field). Put out 0 fs after next) (said-is plain l parsed (located-parse number plain lenient small l e))
+    (subst (λ (fs : List Field). Put out 0 fs after next) (said-is plain l parsed (located-parse lim number plain lenient small l e))
     (put-then
     (put-whole (foundFields plain (l .listed)) (answer-size (l .answer)) (found-size plain (l .listed)) a d (omega (arith, room)))
     g))

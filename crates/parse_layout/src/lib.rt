@@ -22,7 +22,6 @@ ghost use Rattle.numbers.specs.Writes.{Wrote};
 ghost use Rattle.fields.specs.Fields.{layoutBytes, Put};
 ghost use Rattle.parts.specs.Parts.{slotsSize};
 ghost use Rattle.answers.specs.Settings.{directory};
-ghost use Rattle.slots.specs.Slots.{searchLimit};
 ghost use Rattle.directory.specs.Directory.{Sound};
 ghost use Rattle.slotted.specs.Parses.{parsedOf};
 ghost use Rattle.parse_layout.specs.ParseLayouts.{declaredFlag, declaredCount, parseBytes};
@@ -34,7 +33,8 @@ pub const PARSE_SIZE: usize = ANSWER_SIZE + DIRECTORY_SIZE + 2 + 3 * WARNING_SIZ
 
 // The answer part, the directory, its slots, how many warnings, three places: a parse has no more.
 pub fn write_parse(out: &mut [u8], number: u64, plain: &[u8], options: Options) -> usize
-    ensures { λ r. ⌜ Wrote (now (out .entry)) 0 (parseBytes (parsedOf searchLimit number (now (plain .entry)) (directory options))) (now (out .exit)) r ⌝ }
+    ensures { λ r. ⌜ Wrote (now (out .entry)) 0 (parseBytes (parsedOf (options .«search_limit») number (now (plain .entry)) (directory options)))
+        (now (out .exit)) r ⌝ }
 {
     if out.len() < PARSE_SIZE {
         return 0;
@@ -50,7 +50,7 @@ pub fn write_parse(out: &mut [u8], number: u64, plain: &[u8], options: Options) 
 
 // The directory with its slots: all of it, or nothing.
 fn put_directory(out: &mut [u8], at: usize, plain: &[u8], l: Listed) -> usize
-    requires { ⌜ Sound (now plain) (l .start) (l .count) × (l .count ≤ 384) ⌝ }
+    requires { ⌜ Sound (now plain) (l .start) (l .count) × (l .count ≤ 1024) ⌝ }
     ensures { λ r. ⌜ Wrote (now (out .entry)) at (layoutBytes (foundFields (now (plain .entry)) l)) (now (out .exit)) r ⌝ }
 {
     if out.len() < DIRECTORY_SIZE {

@@ -46,4 +46,4 @@ bvs-size t = refl
 
 pub slots-size : (slots : List ℕ) → sizeOf (slotsFields slots) ≡ slotsSize
 unfolding slotsFields sizeOf widthOf
-slots-size slots = table-size (pairEntry slots) 2 384 (λ k. refl)
+slots-size slots = table-size (pairEntry slots) 2 1024 (λ k. refl)

@@ -109,7 +109,7 @@ bvsFields t = little 1 (t .len) ∷ placesFields (t .items)
 
 -- a table of slots, or of where rows start
 abbrev pub slotsSize : ℕ
-slotsSize = 384 * 2
+slotsSize = 1024 * 2
 
 unfoldable pub slotsFields : List ℕ → List Field
-slotsFields slots = joined (pairEntry slots) 384
+slotsFields slots = joined (pairEntry slots) 1024

@@ -29,4 +29,4 @@ pub const BVS_SIZE: usize = 9;
 
 pub const FITS_SIZE: usize = 8 * FIT_SIZE;
 
-pub const SLOTS_SIZE: usize = 384 * 2;
+pub const SLOTS_SIZE: usize = 1024 * 2;

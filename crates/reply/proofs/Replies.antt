@@ -18,11 +18,10 @@ use Rattle.decode.specs.Decode.{decodingOf}
 use Rattle.verdict.specs.declared.Decoding.{Decoding}
 use Rattle.lines.specs.Input.{Bounded}
 use Rattle.digits.specs.Digits.{spelled}
-use Rattle.frame.specs.Frames.{headSize, leastFrame, frameMost, lineRoom, isFrame, anchorCount, pageNumber, optionBits, leastCount, anchorsOf, storedOf, frameOf, frameBytes}
+use Rattle.frame.specs.Frames.{headSize, leastFrame, frameMost, lineRoom, isFrame, anchorCount, pageNumber, optionBits, leastCount, limitOf, anchorsOf, storedOf, frameOf, frameBytes}
 use Rattle.frame.specs.declared.reading.Frame.{Frame}
 use Rattle.frame.specs.declared.reading.Frame.the-variants.{Good, Nothing}
 use Rattle.frame.proofs.Frames.{Fields, frame-long, frame-bytes, frame-small, frame-nothing, frame-good, bytes-yes}
-use Rattle.slots.specs.Slots.{searchLimit}
 use Rattle.reply.specs.Report.{reportMost, replyMost, reportBytes, lineOf}
 use Rattle.reply.specs.Reply.{frameDecoding, frameReport, malformed, replyOf, repliedInto, repliedNumber}
 use Rattle.reply.proofs.Reports.{line-size, report-fits}
@@ -30,7 +29,7 @@ use Rattle.reply.proofs.Reports.{line-size, report-fits}
 frame-report-le : (bytes : List ℕ) (n : ℕ) → length (frameReport bytes n) ≤ reportMost
 unfolding frameReport
 frame-report-le bytes n =
-    report-fits (frameDecoding (pageNumber bytes) (storedOf n bytes) (anchorsOf n bytes) (optionsOf (optionBits bytes) (leastCount bytes))) (pageNumber bytes)
+    report-fits (frameDecoding (pageNumber bytes) (storedOf n bytes) (anchorsOf n bytes) (optionsOf (optionBits bytes) (leastCount bytes) (limitOf bytes))) (pageNumber bytes)
 
 module _ (line : List ℕ) where
   reply-no : isFrame line ≡ false → lineOf malformed ≡ replyOf line
@@ -67,15 +66,15 @@ module _ (line : List ℕ) where
   pub malformed-reply : (r : Frame) → r ≡ frameOf line → r ≡ Nothing → lineOf malformed ≡ replyOf line
   malformed-reply r e f = reply-no (frame-nothing line (sym e ∙ f))
 
-  module _ (r : Frame) (p o t n : ℕ) (e : r ≡ frameOf line) (f : r ≡ Good p o t n) where
-    fields : Fields line p o t n
-    fields = frame-good line p o t n (sym e ∙ f)
+  module _ (r : Frame) (p o t lim n : ℕ) (e : r ≡ frameOf line) (f : r ≡ Good p o t lim n) where
+    fields : Fields line p o t lim n
+    fields = frame-good line p o t lim n (sym e ∙ f)
 
     pub good-count : n < 256
     good-count = let w = fields in omega (arith, w .anchors, frame-small line (w .frame))
 
     pub good-reply : (room bytes : List ℕ) (d : Decoding) → frameMost ≤ length room → bytes ≡ frameBytes line room
-        → d ≡ frameDecoding p (storedOf n bytes) (anchorsOf n bytes) (optionsOf o t) → lineOf (reportBytes p d) ≡ replyOf line
+        → d ≡ frameDecoding p (storedOf n bytes) (anchorsOf n bytes) (optionsOf o t lim) → lineOf (reportBytes p d) ≡ replyOf line
     unfolding frameReport
     good-reply room bytes d h g k =
         let w = fields in
@@ -84,8 +83,8 @@ module _ (line : List ℕ) where
         let all : bytes ≡ over room 0 ys = g ∙ sym (bytes-yes line room h (w .frame)) in
         let stored : storedOf n bytes ≡ storedOf n ys = ap (storedOf n) all ∙ front-part room ys (headSize + n) 4096 (omega arith) in
         let anchors : anchorsOf n bytes ≡ anchorsOf n ys = ap (anchorsOf n) all ∙ front-part room ys headSize n (omega arith) in
-        let same : reportBytes p (frameDecoding p (storedOf n bytes) (anchorsOf n bytes) (optionsOf o t)) ≡ frameReport ys (anchorCount line) =
-        rw (stored, anchors, w .number, w .options, w .least, w .anchors) in
+        let same : reportBytes p (frameDecoding p (storedOf n bytes) (anchorsOf n bytes) (optionsOf o t lim)) ≡ frameReport ys (anchorCount line) =
+        rw (stored, anchors, w .number, w .options, w .least, w .limit, w .anchors) in
         ap (λ (x : Decoding). lineOf (reportBytes p x)) k ∙ ap lineOf same ∙ reply-yes (w .frame)
 
 -- What is kept of an over-long line answers as the whole line does: no line longer than the longest frame's is a frame.
@@ -102,6 +101,6 @@ reply-bounded = record { some = omega arith; front = λ l. kept-answers lineRoom
 
 -- the parts that are lent to the decoding are the frame's
 pub decoded-parts : (number n a b m : ℕ) (bytes : List ℕ) (o o′ : Options) → a ≡ 4096 → b ≡ n → m ≡ 4096 → o ≡ o′
-    → decodingOf searchLimit number (take a (drop (headSize + n) bytes)) (fitsOf number (take a (drop (headSize + n) bytes))) (bytesOf number (take a (drop (headSize + n) bytes))) (take b (drop headSize bytes)) o m
+    → decodingOf number (take a (drop (headSize + n) bytes)) (fitsOf number (take a (drop (headSize + n) bytes))) (bytesOf number (take a (drop (headSize + n) bytes))) (take b (drop headSize bytes)) o m
     ≡ frameDecoding number (storedOf n bytes) (anchorsOf n bytes) o′
 decoded-parts number n a b m bytes o o′ e f g h = rw (e, f, g, h)

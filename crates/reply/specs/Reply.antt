@@ -13,20 +13,19 @@ use Rattle.summary.specs.Page.{fitsOf, bytesOf}
 use Rattle.decode.specs.Decode.{decodingOf}
 use Rattle.verdict.specs.declared.Decoding.{Decoding}
 use Rattle.digits.specs.Digits.{spelled}
-use Rattle.frame.specs.Frames.{isFrame, anchorCount, pageNumber, optionBits, leastCount, anchorsOf, storedOf}
-use Rattle.slots.specs.Slots.{searchLimit}
+use Rattle.frame.specs.Frames.{isFrame, anchorCount, pageNumber, optionBits, leastCount, limitOf, anchorsOf, storedOf}
 use Rattle.reply.specs.Report.{replyMost, reportBytes, lineOf}
 
 -- the decoding of a page by its own scan
 abbrev pub frameDecoding : ℕ → List ℕ → List ℕ → Options → Decoding
-frameDecoding number stored anchors o = decodingOf searchLimit number stored (fitsOf number stored) (bytesOf number stored) anchors o 4096
+frameDecoding number stored anchors o = decodingOf number stored (fitsOf number stored) (bytesOf number stored) anchors o 4096
 
 -- the report on a frame's bytes, of which n are anchors
 unfoldable pub frameReport : List ℕ → ℕ → List ℕ
 frameReport bytes n =
     reportBytes
     (pageNumber bytes)
-    (frameDecoding (pageNumber bytes) (storedOf n bytes) (anchorsOf n bytes) (optionsOf (optionBits bytes) (leastCount bytes)))
+    (frameDecoding (pageNumber bytes) (storedOf n bytes) (anchorsOf n bytes) (optionsOf (optionBits bytes) (leastCount bytes) (limitOf bytes)))
 
 -- "Anything else is line 11", which stands alone: the number of the answer
 abbrev pub malformed : List ℕ

@@ -33,12 +33,13 @@ pub fn reply_to(line: &[u8], out: &mut [u8]) -> usize
         number,
         options,
         t,
+        limit,
         anchors: n,
     } = read_frame(line, &mut bytes)
     else {
         return put_line(&[17], out);
     };
-    let d = decode_frame(number, options, t, n, &bytes);
+    let d = decode_frame(number, options, t, limit, n, &bytes);
     put_reply(number, d, out)
 }
 
@@ -49,9 +50,9 @@ fn frame_room() -> [u8; FRAME_MOST]
     [0; FRAME_MOST]
 }
 
-fn decode_frame(number: u64, options: u8, t: u8, n: usize, bytes: &[u8]) -> Decoding
+fn decode_frame(number: u64, options: u8, t: u8, limit: usize, n: usize, bytes: &[u8]) -> Decoding
     requires { ⌜ leastFrame + n ≤ length (now bytes) ⌝ }
-    ensures { λ r. ⌜ r ≡ frameDecoding number (storedOf n (now (bytes .entry))) (anchorsOf n (now (bytes .entry))) (optionsOf options t) ⌝ }
+    ensures { λ r. ⌜ r ≡ frameDecoding number (storedOf n (now (bytes .entry))) (anchorsOf n (now (bytes .entry))) (optionsOf options t limit) ⌝ }
 {
     let mut plain = page_room();
     let start = HEAD + n;
@@ -60,7 +61,7 @@ fn decode_frame(number: u64, options: u8, t: u8, n: usize, bytes: &[u8]) -> Deco
         number,
         &bytes[start..end],
         &bytes[HEAD..start],
-        Options::new(options, t),
+        Options::new(options, t, limit),
         &mut plain,
     )
 }

@@ -19,7 +19,7 @@ use Rattle.parts.specs.Parts.{slotsSize, slotsFields}
 use Rattle.parts.proofs.Sizes.{slots-size}
 use Rattle.row_layout.specs.RowLayouts.{listFields}
 
-module _ (rows l : List ℕ) (a n : ℕ) (many : n ≡ length rows) (few : n ≤ 384) where
+module _ (rows l : List ℕ) (a n : ℕ) (many : n ≡ length rows) (few : n ≤ 1024) where
   rows-behind : (k : ℕ) → n ≤ k → byteAt rows k ≡ 0
   rows-behind k h = List·getD-eq-default rows 0 {n = k} (omega arith)
 
@@ -40,7 +40,7 @@ module _ (rows l : List ℕ) (a n : ℕ) (many : n ≡ length rows) (few : n ≤
       let long : length table ≡ 2 * n = fields-long (joined (pairEntry rows) n) ∙ entries-size in
       let none : length (replicate {A = ℕ} (slotsSize - 2 * n) 0) ≡ slotsSize - 2 * n = length-replicate {A = ℕ} (slotsSize - 2 * n) 0 in
       let whole : Wrote l (a + 2) (layoutBytes (slotsFields rows)) second p =
-      wrote-same (pairs-padded rows n (slotsSize - 2 * n) 384 few (omega arith) rows-behind)
+      wrote-same (pairs-padded rows n (slotsSize - 2 * n) 1024 few (omega arith) rows-behind)
       (wrote-then (layout-put entries-size starts (omega arith)) zeros (omega arith)) in
       let size : length (layoutBytes (slotsFields rows)) ≡ slotsSize = fields-long (slotsFields rows) ∙ slots-size rows in
       let two : length (littleBytes 2 n) ≡ 2 = little-long 2 n in

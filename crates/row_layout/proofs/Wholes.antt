@@ -7,7 +7,6 @@ use native.Mathlib.Omega.{arith}
 use lib.ListN.{length}
 use Rattle.lists.specs.Bytes.{byteAt}
 use Rattle.answers.specs.declared.kinds.Answer.{Answer}
-use Rattle.slots.specs.Slots.{searchLimit}
 use Rattle.slotted.specs.Locations.{locatedOf}
 use Rattle.slotted.specs.declared.locations.Located.{Located}
 use Rattle.slotted.proofs.Meaning.{located-parse}
@@ -21,8 +20,8 @@ use Rattle.parts.proofs.Sizes.{answer-size}
 use Rattle.row_layout.specs.RowLayouts.{listFields, rowsFields, rowsSize, rowsBytes, pageRowsBytes}
 use Rattle.row_layout.proofs.Sizes.{list-size, rows-size}
 
-module _ (number : ℕ) (plain : List ℕ) (lenient : Bool) (small : byteAt plain 0xFF0 < 256) (l : Located) (e : l ≡ locatedOf searchLimit number plain lenient) where
-  located-rows : rowsAt plain (l .listed .start) (l .listed .count) ≡ rowsOf searchLimit plain lenient
+module _ (lim number : ℕ) (plain : List ℕ) (lenient : Bool) (small : byteAt plain 0xFF0 < 256) (l : Located) (e : l ≡ locatedOf lim number plain lenient) where
+  located-rows : rowsAt plain (l .listed .start) (l .listed .count) ≡ rowsOf lim plain lenient
   unfolding locatedOf rowsOf
   located-rows = ap (λ (x : Located). rowsAt plain (x .listed .start) (x .listed .count)) e
 
@@ -32,11 +31,11 @@ module _ (number : ℕ) (plain : List ℕ) (lenient : Bool) (small : byteAt plai
       → Put out 0 (answerFields (l .answer)) first p
       → Wrote first p (layoutBytes (listFields (rowsAt plain (l .listed .start) (l .listed .count)))) after next
       → rowsSize ≤ length out
-      → Wrote out 0 (pageRowsBytes searchLimit number plain lenient) after next
+      → Wrote out 0 (pageRowsBytes lim number plain lenient) after next
   unfolding rowsFields
   rows-written {out} {first} {after} {p} {next} a w room =
       let rows : List ℕ = rowsAt plain (l .listed .start) (l .listed .count) in
-      subst (λ (x : Answer). Wrote out 0 (rowsBytes x (rowsOf searchLimit plain lenient)) after next) (located-parse number plain lenient small l e .answer)
+      subst (λ (x : Answer). Wrote out 0 (rowsBytes x (rowsOf lim plain lenient)) after next) (located-parse lim number plain lenient small l e .answer)
       (subst (λ (rows : List ℕ). Wrote out 0 (rowsBytes (l .answer) rows) after next) located-rows
       (layout-put (rows-size (l .answer) rows)
       (put-whole (listFields rows) (answer-size (l .answer)) (list-size rows) a w (omega (arith, room)))

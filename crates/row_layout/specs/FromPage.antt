@@ -6,8 +6,8 @@ use lib.ListN.{length}
 use Rattle.lists.specs.Pieces.{joined}
 use Rattle.fields.specs.Fields.{pairEntry, Put}
 
--- where all rows start, put one behind the other; as many as slots, so at most 384
+-- where all rows start, put one behind the other; as many as slots, so at most 1,024
 pub record StartsPut (rows out : List ℕ) (at : ℕ) (outAtExit : List ℕ) (n : ℕ) : Type 0 where
   pub many : n ≡ length rows
-  pub few : n ≤ 384
+  pub few : n ≤ 1024
   pub put : Put out at (joined (pairEntry rows) n) outAtExit (at + 2 * n)

@@ -5,7 +5,6 @@ ghost use lib.ListN.{length};
 ghost use Rattle.numbers.specs.Writes.{Wrote};
 ghost use Rattle.fields.specs.Fields.{layoutBytes};
 ghost use Rattle.answers.specs.Settings.{directory};
-ghost use Rattle.slots.specs.Slots.{searchLimit};
 ghost use Rattle.directory.specs.Directory.{Sound};
 ghost use Rattle.rows.specs.Rows.{rowsAt, startOf, endOf};
 ghost use Rattle.parts.specs.Parts.{slotsSize};
@@ -57,7 +56,8 @@ pub fn write_row(out: &mut [u8], x: Answer, s: Span) -> usize
 
 // How many rows, and where each starts, straight from the page.
 pub fn write_rows(out: &mut [u8], number: u64, plain: &[u8], options: Options) -> usize
-    ensures { λ r. ⌜ Wrote (now (out .entry)) 0 (pageRowsBytes searchLimit number (now (plain .entry)) (directory options)) (now (out .exit)) r ⌝ }
+    ensures { λ r. ⌜ Wrote (now (out .entry)) 0 (pageRowsBytes (options .«search_limit») number (now (plain .entry)) (directory options))
+        (now (out .exit)) r ⌝ }
 {
     if out.len() < ROWS_SIZE {
         return 0;
@@ -71,7 +71,7 @@ pub fn write_rows(out: &mut [u8], number: u64, plain: &[u8], options: Options) -
 
 // How many there are is known behind the last of them, and then put before the first.
 fn put_rows(out: &mut [u8], at: usize, plain: &[u8], start: usize, count: usize) -> usize
-    requires { ⌜ Sound (now plain) start count × (count ≤ 384) ⌝ }
+    requires { ⌜ Sound (now plain) start count × (count ≤ 1024) ⌝ }
     ensures { λ r. ⌜ Wrote (now (out .entry)) at (layoutBytes (listFields (rowsAt (now (plain .entry)) start count))) (now (out .exit)) r ⌝ }
 {
     if out.len() < LIST_SIZE {
@@ -89,7 +89,7 @@ fn put_rows(out: &mut [u8], at: usize, plain: &[u8], start: usize, count: usize)
 
 // From the directory's far end the kept offsets ascend. It returns how many they are.
 fn put_starts(out: &mut [u8], at: usize, plain: &[u8], start: usize, count: usize) -> usize
-    requires { ⌜ Sound (now plain) start count × (count ≤ 384) × (at + slotsSize ≤ length (now out)) ⌝ }
+    requires { ⌜ Sound (now plain) start count × (count ≤ 1024) × (at + slotsSize ≤ length (now out)) ⌝ }
     ensures { λ n. ⌜ StartsPut (rowsAt (now (plain .entry)) start count) (now (out .entry)) at (now (out .exit)) n ⌝ }
 {
     let stop = start + 2 * count;

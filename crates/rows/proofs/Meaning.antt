@@ -15,7 +15,6 @@ use Rattle.lists.specs.Pieces.{keep, over}
 use Rattle.lists.proofs.Each.{each-length}
 use Rattle.lists.proofs.Keep.{keep-le}
 use Rattle.lists.proofs.Sorting.{insert-count}
-use Rattle.slots.specs.Slots.{searchLimit}
 use Rattle.directory.specs.Directory.{slotsOf}
 use Rattle.directory.specs.Decisions.{decisionOf}
 use Rattle.directory.specs.declared.verdicts.Listed.{Listed}
@@ -57,23 +56,23 @@ row-there (suc r) (x ∷ l) = let i = row-there r l in ((λ h q. i .0 (omega ari
 
 -- ---- all rows
 
--- at most 384, as slots
-rows-at : (plain : List ℕ) (start count : ℕ) → count ≤ 384 → length (rowsAt plain start count) ≤ 384
+-- at most 1,024, as slots
+rows-at : (plain : List ℕ) (start count : ℕ) → count ≤ 1024 → length (rowsAt plain start count) ≤ 1024
 rows-at plain start count h =
     let k = keep-le (isKept start (start + 2 * count)) (slotsOf plain start count) in
     omega (arith, k, rows-length plain start count, each-length (λ j. pairAt plain (start + 2 * j)) count)
 
-pub rows-fit : (plain : List ℕ) (lenient : Bool) → byteAt plain 0xFF0 < 256 → length (rowsOf searchLimit plain lenient) ≤ 384
+pub rows-fit : (lim : ℕ) (plain : List ℕ) (lenient : Bool) → byteAt plain 0xFF0 < 256 → length (rowsOf lim plain lenient) ≤ 1024
 unfolding rowsOf
-rows-fit plain lenient b = rows-at plain _ _ (listed-few plain lenient b)
+rows-fit lim plain lenient b = rows-at plain _ _ (listed-few lim plain lenient b)
 
--- so a buffer of 384 holds them all
+-- so a buffer of 1,024 holds them all
 pub starts-all :
-    (plain : List ℕ) (lenient : Bool) (starts : List ℕ)
+    (lim : ℕ) (plain : List ℕ) (lenient : Bool) (starts : List ℕ)
     → byteAt plain 0xFF0 < 256
-    → 384 ≤ length starts
-    → startsIn (rowsOf searchLimit plain lenient) starts ≡ over starts 0 (rowsOf searchLimit plain lenient)
-starts-all plain lenient starts b h = ap (over starts 0) (take-all (length starts) (rowsOf searchLimit plain lenient) (omega (arith, rows-fit plain lenient b)))
+    → 1024 ≤ length starts
+    → startsIn (rowsOf lim plain lenient) starts ≡ over starts 0 (rowsOf lim plain lenient)
+starts-all lim plain lenient starts b h = ap (over starts 0) (take-all (length starts) (rowsOf lim plain lenient) (omega (arith, rows-fit lim plain lenient b)))
 
 least-first : (x : ℕ) (l : List ℕ) → Up (x ∷ l) → (j : ℕ) → j < length l → x < byteAt l j
 unfolding Up

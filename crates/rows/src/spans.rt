@@ -3,13 +3,11 @@ use answers::Answer;
 use answers::Options;
 use directory::decide;
 use numbers::pair;
-use slots::SEARCH_LIMIT;
 ghost use mathlib.Core.Path.{_≡_};
 ghost use Prim.Native.Nat.{_+_, _*_, _<_, _≤_};
 ghost use lib.ListN.{length};
 ghost use Rattle.lists.specs.Bytes.{pairAt};
 ghost use Rattle.answers.specs.Settings.{directory};
-ghost use Rattle.slots.specs.Slots.{searchLimit};
 ghost use Rattle.directory.specs.Directory.{Sound};
 ghost use Rattle.rows.specs.Rows.{isKept, rowsAt, rowIn, startOf, endOf, IsPart, IsRow};
 ghost use Rattle.rows.specs.RowAnswers.{rowsOf, rowOf, rowAnswerOf, rowFoundOf, rowsCountedOf, spanAnswer};
@@ -41,9 +39,9 @@ pub struct Row<'a> {
 
 // Asking for row r: 1, the parse's refusals, 16, or that it is there; and where it lies.
 pub fn row_found(number: u64, plain: &[u8], options: Options, r: usize) -> RowFound
-    ensures { λ f. ⌜ f ≡ rowFoundOf searchLimit number (now (plain .entry)) (directory options) r ⌝ }
+    ensures { λ f. ⌜ f ≡ rowFoundOf (options .«search_limit») number (now (plain .entry)) (directory options) r ⌝ }
 {
-    let d = decide(plain, SEARCH_LIMIT, options.directory());
+    let d = decide(plain, options.search_limit, options.directory());
     let verdict = d.verdict;
     let listed = d.listed;
     let span = span_at(plain, listed.start, listed.count, r);
@@ -60,9 +58,9 @@ pub fn row_found(number: u64, plain: &[u8], options: Options, r: usize) -> RowFo
 
 // How many rows the page has, none where the parse refuses it, beside what the parse answers.
 pub fn rows_counted(number: u64, plain: &[u8], options: Options) -> RowsCounted
-    ensures { λ n. ⌜ n ≡ rowsCountedOf searchLimit number (now (plain .entry)) (directory options) ⌝ }
+    ensures { λ n. ⌜ n ≡ rowsCountedOf (options .«search_limit») number (now (plain .entry)) (directory options) ⌝ }
 {
-    let d = decide(plain, SEARCH_LIMIT, options.directory());
+    let d = decide(plain, options.search_limit, options.directory());
     let verdict = d.verdict;
     let listed = d.listed;
     let answer = verdict.answer(number);
@@ -71,37 +69,37 @@ pub fn rows_counted(number: u64, plain: &[u8], options: Options) -> RowsCounted
 }
 
 pub fn row_answer(number: u64, plain: &[u8], options: Options, r: usize) -> Answer
-    ensures { λ a. ⌜ a ≡ rowAnswerOf searchLimit number (now (plain .entry)) (directory options) r ⌝ }
+    ensures { λ a. ⌜ a ≡ rowAnswerOf (options .«search_limit») number (now (plain .entry)) (directory options) r ⌝ }
 {
     let found = row_found(number, plain, options, r);
     found.answer
 }
 
 pub fn row_count(plain: &[u8], options: Options) -> usize
-    ensures { λ n. ⌜ n ≡ length (rowsOf searchLimit (now (plain .entry)) (directory options)) ⌝ }
+    ensures { λ n. ⌜ n ≡ length (rowsOf (options .«search_limit») (now (plain .entry)) (directory options)) ⌝ }
 {
     let counted = rows_counted(0, plain, options);
     counted.rows
 }
 
 pub fn row_span(plain: &[u8], options: Options, r: usize) -> Span
-    ensures { λ s. ⌜ s ≡ rowOf searchLimit (now (plain .entry)) (directory options) r ⌝ }
+    ensures { λ s. ⌜ s ≡ rowOf (options .«search_limit») (now (plain .entry)) (directory options) r ⌝ }
 {
-    let d = decide(plain, SEARCH_LIMIT, options.directory());
+    let d = decide(plain, options.search_limit, options.directory());
     let listed = d.listed;
     span_at(plain, listed.start, listed.count, r)
 }
 
 // Row r itself: that part of the caller's slice; the empty part at 0 where there is none.
 pub fn row_bytes<'a>(plain: &'a [u8], options: Options, r: usize) -> &'a [u8]
-    ensures { λ p. ⌜ IsPart (plain .entry) p (rowOf searchLimit (now (plain .entry)) (directory options) r) ⌝ }
+    ensures { λ p. ⌜ IsPart (plain .entry) p (rowOf (options .«search_limit») (now (plain .entry)) (directory options) r) ⌝ }
 {
     part_of(plain, row_span(plain, options, r))
 }
 
 // The record of row r: the one function over it.
 pub fn row_at<'a>(plain: &'a [u8], options: Options, r: usize) -> Row<'a>
-    ensures { λ w. ⌜ IsRow (plain .entry) (rowOf searchLimit (now (plain .entry)) (directory options) r) w ⌝ }
+    ensures { λ w. ⌜ IsRow (plain .entry) (rowOf (options .«search_limit») (now (plain .entry)) (directory options) r) w ⌝ }
 {
     let span = row_span(plain, options, r);
     Row {

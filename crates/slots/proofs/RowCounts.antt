@@ -13,6 +13,7 @@ use borrow.Author.Tests.{le-leb, lt-leb, leb-true, leb-false, eq-eqb, ne-eqb}
 use Rattle.lists.proofs.Booleans.{or-no-left, or-no-right}
 use Rattle.lists.specs.Cases.{pick}
 use Rattle.lists.specs.Bytes.{byteAt, pairAt}
+use Rattle.answers.specs.Settings.{limitFits}
 use Rattle.slots.specs.Slots.{isOffset, arrayStart, scanFrom, stronger, bestScan, directoryFrom, scannedDirectory, countedBack, counted, rowCountMatches, pageMatches}
 use Rattle.slots.specs.Pairs.{hasPair}
 use Rattle.slots.specs.declared.scans.Scan.{Scan}
@@ -148,6 +149,16 @@ module _ (lim : ℕ) (p : List ℕ) (t : ℕ) where
   unfolding pageMatches
   page-short h = rw (ne-eqb (length p) 4096 h) refl
 
-  pub page-tested : (n : ℕ) (r : Bool) → length p ≡ 4096 → n ≡ byteAt p 0xFF0 → r ≡ rowCountMatches lim p n t → r ≡ pageMatches lim p t
+  pub page-out : length p ≡ 4096 → limitFits lim ≡ false → false ≡ pageMatches lim p t
   unfolding pageMatches
-  page-tested n r h e q = rw (eq-eqb (length p) 4096 h, ← e) q
+  page-out h f = rw (eq-eqb (length p) 4096 h, f)
+
+  pub page-tested :
+      (n : ℕ) (r : Bool)
+      → length p ≡ 4096
+      → limitFits lim ≡ true
+      → n ≡ byteAt p 0xFF0
+      → r ≡ rowCountMatches lim p n t
+      → r ≡ pageMatches lim p t
+  unfolding pageMatches
+  page-tested n r h f e q = rw (eq-eqb (length p) 4096 h, f, ← e) q

@@ -1,5 +1,5 @@
--- Document 01, "Slots and rows": slot values, the scan and the row-count test, on the bytes `plain` of a page. `lim` is the search limit.
--- Assumes nothing.
+-- Document 01, "Slots and rows": slot values, the scan and the row-count test, on the bytes `plain` of a page. `lim` is the search limit, where
+-- document 01 has 0x300: starts and fields go from 0 to lim - 1. Any number may be the limit. Assumes nothing.
 use Prim.Native.Nat.{ℕ, zero, suc, _+_, _-_, _*_}
 use mathlib.Core.List.{List, [], _∷_}
 use mathlib.Core.Bool.{Bool, false, _&&_, _||_}
@@ -7,14 +7,10 @@ use lib.ListN.{length, take, drop}
 use lib.Dec.{ltb, leb, eqb}
 use Rattle.lists.specs.Cases.{pick}
 use Rattle.lists.specs.Bytes.{byteAt, pairAt}
+use Rattle.answers.specs.Settings.{limitFits}
 use Rattle.slots.specs.declared.scans.Scan.{Scan}
 use Rattle.slots.specs.declared.scans.Found.{Found}
 use Rattle.slots.specs.declared.scans.Found.the-variants.{Directory, Nothing}
-
--- "from each start 0 to 0x2FF", "a field 0 to 0x2FF": a scan stays in the first 768 bytes, and a prelude's field stands there, as slotted.rs's
--- SEARCH_LIMIT has it
-abbrev pub searchLimit : ℕ
-searchLimit = 0x300
 
 -- "a slot value is an offset if 0x20 <= value < 0xFF0": slotted.rs's SLOT_OFFSET_MIN, and where the trailer starts
 unfoldable pub isOffset : ℕ → Bool
@@ -59,7 +55,7 @@ liveOf [] = 0
 liveOf (zero ∷ l) = liveOf l
 liveOf (suc x ∷ l) = suc (liveOf l)
 
--- "skip one zero pair if pos + 3 < 0x300 and an offset follows": where the array of a scan from s stands
+-- "skip one zero pair if pos + 3 < 0x300 and an offset follows", 0x300 being the limit: where the array of a scan from s stands
 unfoldable pub arrayStart : ℕ → List ℕ → ℕ → ℕ
 arrayStart lim plain s = pick (ltb (s + 3) lim && (eqb (pairAt plain s) 0 && isOffset (pairAt plain (s + 2)))) (s + 2) s
 
@@ -102,6 +98,6 @@ counted plain n (Directory d) = countedBack plain (d .start) n 6 || countedBack 
 unfoldable pub rowCountMatches : ℕ → List ℕ → ℕ → ℕ → Bool
 rowCountMatches lim plain n t = leb t n && counted plain n (scannedDirectory lim plain)
 
--- the same of a whole page, which has its row count at 0xFF0; another length answers no
+-- the same of a whole page, which has its row count at 0xFF0; another length answers no, and so does a limit that is out of range
 unfoldable pub pageMatches : ℕ → List ℕ → ℕ → Bool
-pageMatches lim plain t = eqb (length plain) 4096 && rowCountMatches lim plain (byteAt plain 0xFF0) t
+pageMatches lim plain t = eqb (length plain) 4096 && (limitFits lim && rowCountMatches lim plain (byteAt plain 0xFF0) t)

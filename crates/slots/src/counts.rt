@@ -1,15 +1,15 @@
 // The row-count test: the scanned directory has the trailer's row count before it.
-use crate::SEARCH_LIMIT;
 use crate::scans::Found;
 use crate::scans::scanned_directory;
 use crate::values::plain_byte;
+use answers::Options;
 ghost use mathlib.Core.Path.{_≡_};
 ghost use mathlib.Core.Bool.{_&&_};
 ghost use Prim.Native.Nat.{_+_, _-_, _<_, _≤_, min};
 ghost use lib.Dec.{eqb};
 ghost use lib.ListN.{length};
 ghost use Rattle.lists.specs.Bytes.{plainOf};
-ghost use Rattle.slots.specs.Slots.{searchLimit, countedBack, rowCountMatches, pageMatches};
+ghost use Rattle.slots.specs.Slots.{countedBack, rowCountMatches, pageMatches};
 ghost use Rattle.slots.specs.Pairs.{hasPair};
 
 // The test of a page's data less bv, with the stored row count n and T. Without the pair (n, 0) below the limit the answer is no, with
@@ -33,14 +33,17 @@ pub fn trailer_row_count_matches(bytes: &[u8], bv: u8, limit: usize, n: u8, t: u
     counted_back(bytes, bv, start, n, 4)
 }
 
-// The test of a whole plain page, which has its row count at 0xFF0.
-pub fn page_row_count_matches(plain: &[u8], t: u8) -> bool
-    ensures { λ r. ⌜ r ≡ pageMatches searchLimit (now (plain .entry)) t ⌝ }
+// The test of a whole plain page, which has its row count at 0xFF0. A limit that is out of range answers no.
+pub fn page_row_count_matches(plain: &[u8], limit: usize, t: u8) -> bool
+    ensures { λ r. ⌜ r ≡ pageMatches limit (now (plain .entry)) t ⌝ }
 {
     if plain.len() != 4096 {
         return false;
     }
-    trailer_row_count_matches(plain, 0, SEARCH_LIMIT, plain[0xFF0], t)
+    if !Options::limit_fits(limit) {
+        return false;
+    }
+    trailer_row_count_matches(plain, 0, limit, plain[0xFF0], t)
 }
 
 // Whether n and 0 stand next to each other, the first of them below the limit: what the test needs, whatever the scan finds, and what a

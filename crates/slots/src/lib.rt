@@ -2,7 +2,7 @@
 // scanned_directory and scan_from, and verify.rs's trailer_row_count_matches.
 //
 // A search takes bytes and the bv to take off each, 0 for a plain page: a candidate bv is tested with no plaintext copy.
-// The scan departs from the original's, which starts anew at each of 768 positions: it goes once from the limit down to 0.
+// The scan departs from the original's, which starts anew at each position: it goes once from the limit down to 0.
 mod counts;
 mod scans;
 mod values;
@@ -14,6 +14,3 @@ pub use scans::Found;
 pub use scans::Scan;
 pub use scans::scanned_directory;
 pub use values::is_offset;
-
-// The definition searchLimit: a directory is looked for in the first 768 bytes.
-pub const SEARCH_LIMIT: usize = 0x300;

@@ -78,7 +78,7 @@ module _ (number : ℕ) (a b c : WarningKind) where
 
   -- in their table they are what the parse warns of: x, y and z say which of them are none
   abbrev put : Bool → ParseWarnings → WarningKind → ParseWarnings
-  put x t k = pick x t (pick (leb 386 (t .len)) t (record { items = set (t .items) (t .len) (ofPage number k); len = t .len + 1 }))
+  put x t k = pick x t (pick (leb 1026 (t .len)) t (record { items = set (t .items) (t .len) (ofPage number k); len = t .len + 1 }))
 
   abbrev kept : Bool → WarningKind → List WarningKind → List WarningKind
   kept x k l = pick (not x) (k ∷ l) l

@@ -11,7 +11,7 @@ use Rattle.lists.specs.Bytes.{byteAt}
 use Rattle.answers.specs.Warns.{warningNumber, noParseWarnings, withParseWarning}
 use Rattle.answers.specs.declared.notices.WarningKind.{WarningKind}
 use Rattle.answers.specs.declared.notices.ParseWarnings.{ParseWarnings}
-use Rattle.slots.specs.Slots.{searchLimit}
+use Rattle.answers.proofs.Limits.{limit-within}
 use Rattle.directory.specs.Directory.{slotsOf}
 use Rattle.directory.specs.Decisions.{decisionOf}
 use Rattle.slotted.specs.Locations.{locatedOf}
@@ -19,12 +19,12 @@ use Rattle.slotted.specs.Parses.{tableOf, warned, parsedOf, SaysTheParse
 use Rattle.directory.specs.declared.verdicts.Decided.{Decided}
 use Rattle.slotted.specs.declared.locations.Located.{Located}
 use Rattle.directory.proofs.Found.{scanned-few}
-use Rattle.directory.proofs.Decisions.{decided-holds}
+use Rattle.directory.proofs.Decisions.{found-holds, decided-holds}
 use Rattle.slotted.proofs.Located.{table-given}
 
 one-more : (t : ParseWarnings) (number : ℕ) (kind : WarningKind) (n : ℕ) → t .len ≤ n → warned t number kind .len ≤ n + 1
 unfolding warned withParseWarning
-one-more t number kind n h = go (eqb (warningNumber kind) 0) (leb 386 (t .len)) (record { items = set (t .items) (t .len) (record { page = number; kind = kind }); len = t .len + 1 }) refl
+one-more t number kind n h = go (eqb (warningNumber kind) 0) (leb 1026 (t .len)) (record { items = set (t .items) (t .len) (record { page = number; kind = kind }); len = t .len + 1 }) refl
   where
     go : (b c : Bool) (u : ParseWarnings) → u .len ≡ t .len + 1 → pick b t (pick c t u) .len ≤ n + 1
     go true c u e = omega arith
@@ -42,28 +42,31 @@ three-warnings lim number plain lenient =
 
 -- ---- the tables
 
--- at most 384 slots are listed of a page of bytes: a prelude declares at most 255, and 384 pairs stand below the limit
-pub listed-few : (plain : List ℕ) (lenient : Bool) → byteAt plain 0xFF0 < 256 → decisionOf searchLimit plain lenient .listed .count ≤ 384
-listed-few plain lenient b =
-    decided-holds searchLimit plain (λ start count. count ≤ 384) (omega arith)
-    (λ d e. let h : 2 * d .slots ≤ searchLimit = scanned-few searchLimit plain d e in omega arith) (λ s e. omega arith) lenient
+-- at most 1,024 slots are listed of a page of bytes, at every limit: a prelude declares at most 255, and a limit that fits has 1,024 pairs below it
+pub listed-few : (lim : ℕ) (plain : List ℕ) (lenient : Bool) → byteAt plain 0xFF0 < 256 → decisionOf lim plain lenient .listed .count ≤ 1024
+listed-few lim plain lenient b =
+    decided-holds lim plain (λ start count. count ≤ 1024) (omega arith) lenient
+    (λ f.
+    found-holds lim plain (λ start count. count ≤ 1024) (omega arith)
+    (λ d e. let h : 2 * d .slots ≤ lim = scanned-few lim plain d e in let k : lim ≤ 2048 = limit-within lim f .1 in omega arith)
+    (byteAt plain 0xFF0) (λ s e. omega arith) lenient)
 
 -- the directory fits its table
-pub directory-fits : (number : ℕ) (plain : List ℕ) (lenient : Bool) → byteAt plain 0xFF0 < 256 → parsedOf searchLimit number plain lenient .directory .len ≤ 384
+pub directory-fits : (lim number : ℕ) (plain : List ℕ) (lenient : Bool) → byteAt plain 0xFF0 < 256 → parsedOf lim number plain lenient .directory .len ≤ 1024
 unfolding parsedOf
-directory-fits number plain lenient b = listed-few plain lenient b
+directory-fits lim number plain lenient b = listed-few lim plain lenient b
 
 -- ---- the small value
 
 -- it says what the parse says
 pub located-says :
-    (number : ℕ) (plain : List ℕ) (lenient : Bool)
+    (lim number : ℕ) (plain : List ℕ) (lenient : Bool)
     → byteAt plain 0xFF0 < 256
-    → SaysTheParse plain (locatedOf searchLimit number plain lenient) (parsedOf searchLimit number plain lenient)
+    → SaysTheParse plain (locatedOf lim number plain lenient) (parsedOf lim number plain lenient)
 unfolding locatedOf parsedOf
-located-says number plain lenient b =
-    let d : Decided = decisionOf searchLimit plain lenient in
-    let few : min (d .listed .count) 384 ≡ d .listed .count = omega (arith, listed-few plain lenient b) in
+located-says lim number plain lenient b =
+    let d : Decided = decisionOf lim plain lenient in
+    let few : min (d .listed .count) 1024 ≡ d .listed .count = omega (arith, listed-few lim plain lenient b) in
     let table = table-given number (d .first) (d .second) (d .third) in
     record {
       answer = refl;
@@ -79,10 +82,10 @@ located-says number plain lenient b =
     }
 
 -- a value that is equal to it: few slots, and the parse's
-module _ (number : ℕ) (plain : List ℕ) (lenient : Bool) (small : byteAt plain 0xFF0 < 256) (l : Located) (e : l ≡ locatedOf searchLimit number plain lenient) where
-  pub located-few : l .listed .count ≤ 384
+module _ (lim number : ℕ) (plain : List ℕ) (lenient : Bool) (small : byteAt plain 0xFF0 < 256) (l : Located) (e : l ≡ locatedOf lim number plain lenient) where
+  pub located-few : l .listed .count ≤ 1024
   unfolding locatedOf
-  located-few = subst (λ (x : Located). x .listed .count ≤ 384) (sym e) (listed-few plain lenient small)
+  located-few = subst (λ (x : Located). x .listed .count ≤ 1024) (sym e) (listed-few lim plain lenient small)
 
-  pub located-parse : SaysTheParse plain l (parsedOf searchLimit number plain lenient)
-  located-parse = subst (λ (x : Located). SaysTheParse plain x (parsedOf searchLimit number plain lenient)) (sym e) (located-says number plain lenient small)
+  pub located-parse : SaysTheParse plain l (parsedOf lim number plain lenient)
+  located-parse = subst (λ (x : Located). SaysTheParse plain x (parsedOf lim number plain lenient)) (sym e) (located-says lim number plain lenient small)

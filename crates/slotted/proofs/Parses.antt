@@ -27,16 +27,16 @@ pub table-none : (plain : List ℕ) (start : ℕ) (t : List ℕ) → t ≡ table
 unfolding each
 table-none plain start t e = e
 
-table-put : (l t : List ℕ) (k v : ℕ) → length l ≡ k → k < 384 → t ≡ tableOf l → set t k v ≡ tableOf (l ++ (v ∷ []))
+table-put : (l t : List ℕ) (k v : ℕ) → length l ≡ k → k < 1024 → t ≡ tableOf l → set t k v ≡ tableOf (l ++ (v ∷ []))
 table-put l t k v n h q =
-    let m : 384 - length l ≡ suc (384 - (k + 1)) = omega arith in
-    let n′ : 384 - (k + 1) ≡ 384 - length (l ++ (v ∷ [])) = omega (arith, length-append l (v ∷ [])) in
-    let room : List ℕ = replicate (384 - (k + 1)) 0 in
+    let m : 1024 - length l ≡ suc (1024 - (k + 1)) = omega arith in
+    let n′ : 1024 - (k + 1) ≡ 1024 - length (l ++ (v ∷ [])) = omega (arith, length-append l (v ∷ [])) in
+    let room : List ℕ = replicate (1024 - (k + 1)) 0 in
     let a : t ≡ l ++ (0 ∷ room) = q ∙ ap (λ (x : ℕ). l ++ replicate x 0) m in
     ap (λ (x : List ℕ). set x k v) a ∙ set-at l 0 room v k n ∙ sym (append-assoc l (v ∷ []) room)
     ∙ ap (λ (x : ℕ). (l ++ (v ∷ [])) ++ replicate x 0) n′
 
-pub table-more : (plain : List ℕ) (start k v : ℕ) (t : List ℕ) → k < 384 → v ≡ pairAt plain (start + 2 * k) → t ≡ tableOf (slotsOf plain start k) → set t k v ≡ tableOf (slotsOf plain start (k + 1))
+pub table-more : (plain : List ℕ) (start k v : ℕ) (t : List ℕ) → k < 1024 → v ≡ pairAt plain (start + 2 * k) → t ≡ tableOf (slotsOf plain start k) → set t k v ≡ tableOf (slotsOf plain start (k + 1))
 table-more plain start k v t h e q =
     let f : ℕ → ℕ = λ j. pairAt plain (start + 2 * j) in
     table-put (slotsOf plain start k) t k v (each-length f k) h q ∙ ap (λ (x : ℕ). tableOf (slotsOf plain start k ++ (x ∷ []))) e ∙ ap tableOf (sym (each-more f k))
@@ -45,7 +45,7 @@ pub table-all : (plain : List ℕ) (start k room : ℕ) (t : List ℕ) → k ≤
 table-all plain start k room t h l q = let z : k ≡ room = omega arith in q ∙ ap (λ (x : ℕ). tableOf (slotsOf plain start x)) z
 
 -- the directory of what is listed
-pub tabled-is : (plain : List ℕ) (l : Listed) (t : List ℕ) → t ≡ tableOf (slotsOf plain (l .start) (min (l .count) 384))
+pub tabled-is : (plain : List ℕ) (l : Listed) (t : List ℕ) → t ≡ tableOf (slotsOf plain (l .start) (min (l .count) 1024))
     → record { «array_start» = l .start; end = l .start + 2 * l .count; slots = t; len = l .count; declared = l .declared } ≡ directoryOf plain l
 tabled-is plain l t h = rw h refl
 

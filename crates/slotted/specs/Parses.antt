@@ -1,4 +1,4 @@
--- The parse's answer: the directory with its table of 384 slots, and the warnings in a table of 386; and what the small value says of it. Assumes
+-- The parse's answer: the directory with its table of 1,024 slots, and the warnings in a table of 1,026; and what the small value says of it. Assumes
 -- nothing.
 use Prim.Native.Nat.{ℕ, _+_, _-_, _*_, min}
 use mathlib.Core.Path.{_≡_}
@@ -21,14 +21,14 @@ use Rattle.slotted.specs.declared.directories.Parsed.{Parsed}
 
 -- slots, and zeros after them
 abbrev pub tableOf : List ℕ → List ℕ
-tableOf l = l ++ replicate (384 - length l) 0
+tableOf l = l ++ replicate (1024 - length l) 0
 
 -- array start, end, table of slots, length, declared count or none; where nothing is listed, the blank one
 abbrev pub directoryOf : List ℕ → Listed → SlotDirectory
 directoryOf plain l = record {
   «array_start» = l .start;
   end = l .start + 2 * l .count;
-  slots = tableOf (slotsOf plain (l .start) (min (l .count) 384));
+  slots = tableOf (slotsOf plain (l .start) (min (l .count) 1024));
   len = l .count;
   declared = l .declared;
 }
@@ -63,4 +63,4 @@ pub record SaysTheParse (plain : List ℕ) (l : Located) (p : Parsed) : Type 0 w
   pub slots : tableOf (slotsOf plain (l .listed .start) (l .listed .count)) ≡ p .directory .slots
   pub warnings : l .warnings .len ≡ p .warnings .len
   pub first-three : l .warnings .first ∷ l .warnings .second ∷ l .warnings .third ∷ [] ≡ take 3 (p .warnings .items)
-  pub no-other : drop 3 (p .warnings .items) ≡ replicate 383 blankWarning
+  pub no-other : drop 3 (p .warnings .items) ≡ replicate 1023 blankWarning

@@ -8,12 +8,10 @@ use directory::Declared;
 use directory::Listed;
 use directory::decide;
 use numbers::pair;
-use slots::SEARCH_LIMIT;
 ghost use mathlib.Core.Path.{_≡_};
 ghost use mathlib.Core.List.{[]};
 ghost use Prim.Native.Nat.{_+_, _*_, _≤_, min};
 ghost use lib.ListN.{length};
-ghost use Rattle.slots.specs.Slots.{searchLimit};
 ghost use Rattle.answers.specs.Settings.{directory};
 ghost use Rattle.directory.specs.Directory.{slotsOf, Sound};
 ghost use Rattle.slotted.specs.Parses.{tableOf, directoryOf, warningTable, parsedOf};
@@ -22,7 +20,7 @@ ghost use Rattle.slotted.specs.Parses.{tableOf, directoryOf, warningTabl
 pub struct SlotDirectory {
     pub array_start: usize,
     pub end: usize,
-    pub slots: [u16; 384],
+    pub slots: [u16; 1024],
     pub len: usize,
     pub declared: Declared,
 }
@@ -35,10 +33,10 @@ pub struct Parsed {
     pub warnings: ParseWarnings,
 }
 
-// The slot directory of a plain page. It is the one function that builds the tables, and they go by value: 808 bytes of directory and 12,360 of
-// warnings, so some 14 KB of stack. Where that is much, ask `locate`, and read the slots where they stand.
+// The slot directory of a plain page. It is the one function that builds the tables, and they go by value: 2,088 bytes of directory and 32,840 of
+// warnings, so some 35 KB of stack. Where that is much, ask `locate`, and read the slots where they stand.
 pub fn parse(number: u64, plain: &[u8], options: Options) -> Parsed
-    ensures { λ r. ⌜ r ≡ parsedOf searchLimit number (now (plain .entry)) (directory options) ⌝ }
+    ensures { λ r. ⌜ r ≡ parsedOf (options .«search_limit») number (now (plain .entry)) (directory options) ⌝ }
 {
     let l = locate(number, plain, options);
     let answer = l.answer;
@@ -57,9 +55,9 @@ pub fn parse(number: u64, plain: &[u8], options: Options) -> Parsed
 
 // What the parse answers, with no table built.
 pub fn parse_answer(number: u64, plain: &[u8], options: Options) -> Answer
-    ensures { λ a. ⌜ a ≡ parsedOf searchLimit number (now (plain .entry)) (directory options) .answer ⌝ }
+    ensures { λ a. ⌜ a ≡ parsedOf (options .«search_limit») number (now (plain .entry)) (directory options) .answer ⌝ }
 {
-    let d = decide(plain, SEARCH_LIMIT, options.directory());
+    let d = decide(plain, options.search_limit, options.directory());
     let verdict = d.verdict;
     verdict.answer(number)
 }
@@ -97,16 +95,16 @@ fn tabled(plain: &[u8], listed: Listed) -> SlotDirectory
     }
 }
 
-fn no_slots() -> [u16; 384]
+fn no_slots() -> [u16; 1024]
     ensures { λ r. ⌜ r ≡ tableOf [] ⌝ }
 {
-    [0u16; 384]
+    [0u16; 1024]
 }
 
 // The slots in their table; those past its room are left out.
-fn slot_table(plain: &[u8], start: usize, count: usize) -> [u16; 384]
+fn slot_table(plain: &[u8], start: usize, count: usize) -> [u16; 1024]
     requires { ⌜ start + 2 * count ≤ length (now plain) ⌝ }
-    ensures { λ r. ⌜ r ≡ tableOf (slotsOf (now (plain .entry)) start (min count 384)) ⌝ }
+    ensures { λ r. ⌜ r ≡ tableOf (slotsOf (now (plain .entry)) start (min count 1024)) ⌝ }
 {
     let room = room_for(count);
     let mut table = no_slots();
@@ -120,7 +118,7 @@ fn slot_table(plain: &[u8], start: usize, count: usize) -> [u16; 384]
 }
 
 fn room_for(count: usize) -> usize
-    ensures { λ r. ⌜ r ≡ min count 384 ⌝ }
+    ensures { λ r. ⌜ r ≡ min count 1024 ⌝ }
 {
-    if count < 384 { count } else { 384 }
+    if count < 1024 { count } else { 1024 }
 }

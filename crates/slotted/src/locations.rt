@@ -5,13 +5,11 @@ use answers::Warning;
 use answers::WarningKind;
 use directory::Listed;
 use directory::decide;
-use slots::SEARCH_LIMIT;
 ghost use mathlib.Core.Path.{_≡_};
 ghost use mathlib.Core.List.{[], _∷_};
 ghost use Prim.Native.Nat.{_<_};
 ghost use Rattle.lists.specs.Cases.{flag};
 ghost use Rattle.answers.specs.Settings.{directory};
-ghost use Rattle.slots.specs.Slots.{searchLimit};
 ghost use Rattle.slotted.specs.Locations.{isGiven, notedOf, inOrder, givenOf, locatedOf};
 
 // The warnings that are given, in their order: the first `len` of the three. The others are blank.
@@ -31,9 +29,9 @@ pub struct Located {
 
 // Where the slot directory of a plain page is.
 pub fn locate(number: u64, plain: &[u8], options: Options) -> Located
-    ensures { λ r. ⌜ r ≡ locatedOf searchLimit number (now (plain .entry)) (directory options) ⌝ }
+    ensures { λ r. ⌜ r ≡ locatedOf (options .«search_limit») number (now (plain .entry)) (directory options) ⌝ }
 {
-    let d = decide(plain, SEARCH_LIMIT, options.directory());
+    let d = decide(plain, options.search_limit, options.directory());
     let verdict = d.verdict;
     let listed = d.listed;
     let first = d.first;

@@ -72,15 +72,15 @@ taken-sized xs c f h = go (ℕ-discrete (length xs) 4080)
 
 -- ---- integrity
 
-module _ (lim number : ℕ) (x : Answer) (n : ℕ) (fits : List Fit) (xs anchors : List ℕ) (o : Options) where
-  pub verdict-refused : integrityRefuses x o ≡ true → verdictBy lim number x n fits xs anchors o ≡ refusal x
+module _ (number : ℕ) (x : Answer) (n : ℕ) (fits : List Fit) (xs anchors : List ℕ) (o : Options) where
+  pub verdict-refused : integrityRefuses x o ≡ true → verdictBy number x n fits xs anchors o ≡ refusal x
   unfolding verdictBy
   verdict-refused h = rw h
 
   pub verdict-settled :
       integrityRefuses x o ≡ false
-      → verdictBy lim number x n fits xs anchors o
-      ≡ settledOf number (keystream o) (refitOf fits xs) (choiceOf lim number xs anchors n o) (warningNoted number (integrityWarning x) noWarnings)
+      → verdictBy number x n fits xs anchors o
+      ≡ settledOf number (keystream o) (refitOf fits xs) (choiceOf number xs anchors n o) (warningNoted number (integrityWarning x) noWarnings)
   unfolding verdictBy
   verdict-settled h = rw h
 

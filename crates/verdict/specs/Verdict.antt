@@ -1,5 +1,5 @@
 -- Document 01, "Answer numbers": what is decided of a page, in the order 3, 4, 15, choice, 7. `stored` is the stored page, `fits` and `shifted` its summary.
--- Assumes nothing.
+-- The choice refuses a search limit out of range; a decoding does so before it comes here. Assumes nothing.
 use Prim.Native.Nat.{ℕ}
 use mathlib.Core.Bool.{Bool, false, not}
 use mathlib.Core.List.{List}
@@ -78,14 +78,14 @@ abbrev pub integrityWarning : Answer → WarningKind
 integrityWarning x = pick (isAccepted x) warning.Nothing (pick (eqb (numberOf x) 3) warning.BadCrc warning.BadTrailer)
 
 -- a page that was written, with the stored row count n: integrity, choice, sectors
-unfoldable pub verdictBy : ℕ → ℕ → Answer → ℕ → List Fit → List ℕ → List ℕ → Options → Decoding
-verdictBy lim number x n fits shifted anchors o =
+unfoldable pub verdictBy : ℕ → Answer → ℕ → List Fit → List ℕ → List ℕ → Options → Decoding
+verdictBy number x n fits shifted anchors o =
     pick (integrityRefuses x o) (refusal x)
-    (settledOf number (keystream o) (refitOf fits shifted) (choiceOf lim number shifted anchors n o) (warningNoted number (integrityWarning x) noWarnings))
+    (settledOf number (keystream o) (refitOf fits shifted) (choiceOf number shifted anchors n o) (warningNoted number (integrityWarning x) noWarnings))
 
-unfoldable pub verdictOf : ℕ → ℕ → List ℕ → List Fit → List ℕ → List ℕ → Options → Decoding
-verdictOf lim number stored fits shifted anchors o = verdictBy lim number (integrityOf number stored) (rowCount stored) fits shifted anchors o
+unfoldable pub verdictOf : ℕ → List ℕ → List Fit → List ℕ → List ℕ → Options → Decoding
+verdictOf number stored fits shifted anchors o = verdictBy number (integrityOf number stored) (rowCount stored) fits shifted anchors o
 
 -- "A supplied bv skips 3, 4 and 15"
-abbrev pub suppliedVerdict : ℕ → ℕ → ℕ → ℕ → List Fit → List ℕ → Options → Decoding
-suppliedVerdict lim number bv n fits shifted o = settledOf number (keystream o) (refitOf fits shifted) (suppliedOf lim number bv shifted n o) noWarnings
+abbrev pub suppliedVerdict : ℕ → ℕ → ℕ → List Fit → List ℕ → Options → Decoding
+suppliedVerdict number bv n fits shifted o = settledOf number (keystream o) (refitOf fits shifted) (suppliedOf number bv shifted n o) noWarnings

@@ -1,6 +1,5 @@
 // The decision on a page that was written, with its stored row count n.
 ghost use mathlib.Core.Path.{_≡_};
-ghost use Rattle.slots.specs.Slots.{searchLimit};
 ghost use Rattle.verdict.specs.Verdict.{verdictBy, suppliedVerdict};
 use crate::Decoding;
 use crate::integrity::integrity_warning;
@@ -23,7 +22,7 @@ pub fn decide(
     anchors: &[u8],
     options: Options,
 ) -> Decoding
-    ensures { λ r. ⌜ r ≡ verdictBy searchLimit number found n fits (now (shifted .entry)) (now (anchors .entry)) options ⌝ }
+    ensures { λ r. ⌜ r ≡ verdictBy number found n fits (now (shifted .entry)) (now (anchors .entry)) options ⌝ }
 {
     if is_refused(found, options) {
         return refused(found);
@@ -50,7 +49,7 @@ pub fn decide_supplied(
     shifted: &[u8],
     options: Options,
 ) -> Decoding
-    ensures { λ r. ⌜ r ≡ suppliedVerdict searchLimit number bv n fits (now (shifted .entry)) options ⌝ }
+    ensures { λ r. ⌜ r ≡ suppliedVerdict number bv n fits (now (shifted .entry)) options ⌝ }
 {
     let choice = choice::supplied_bv(number, bv, shifted, n, options);
     let leniency = options.leniency;

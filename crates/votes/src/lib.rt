@@ -9,7 +9,6 @@ mod polls;
 pub use polls::Poll;
 pub use polls::votes_for;
 ghost use mathlib.Core.Path.{_≡_};
-ghost use Rattle.slots.specs.Slots.{searchLimit};
 ghost use Rattle.votes.specs.Votes.{noCandidates, withCandidate, assessed};
 
 // A value that bv may have, and what speaks for it.
@@ -35,9 +34,9 @@ pub struct Assessment {
     pub top: u8,
 }
 
-// The assessment of a page's shifted bytes, with the stored row count n and T; of another number of bytes an empty one.
-pub fn assess(shifted: &[u8], anchors: &[u8], n: u8, t: u8) -> Assessment
-    ensures { λ r. ⌜ r ≡ assessed searchLimit (now (shifted .entry)) (now (anchors .entry)) n t ⌝ }
+// The assessment of a page's shifted bytes, with the search limit, the stored row count n and T; of another number of bytes an empty one.
+pub fn assess(shifted: &[u8], anchors: &[u8], limit: usize, n: u8, t: u8) -> Assessment
+    ensures { λ r. ⌜ r ≡ assessed limit (now (shifted .entry)) (now (anchors .entry)) n t ⌝ }
 {
     if shifted.len() != 4080 {
         let none = Candidates::none();
@@ -51,7 +50,16 @@ pub fn assess(shifted: &[u8], anchors: &[u8], n: u8, t: u8) -> Assessment
     let ballots = polls::exact_votes(shifted);
     let votes = ballots.votes;
     let leaders = commonest::leaders(&counts);
-    let candidates = listing::candidates(shifted, anchors, n, t, &counts, &votes, leaders.fourth);
+    let candidates = listing::candidates(
+        shifted,
+        anchors,
+        limit,
+        n,
+        t,
+        &counts,
+        &votes,
+        leaders.fourth,
+    );
     Assessment {
         candidates,
         total: ballots.total,

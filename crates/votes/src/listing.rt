@@ -6,7 +6,6 @@ ghost use mathlib.Core.Path.{_≡_};
 ghost use mathlib.Core.Bool.{_&&_, _||_};
 ghost use lib.Dec.{ltb, leb};
 ghost use Rattle.lists.specs.Counts.{isIn};
-ghost use Rattle.slots.specs.Slots.{searchLimit};
 ghost use Rattle.votes.specs.Votes.{isVerified, candidatesBelow, tabled};
 ghost use Rattle.votes.specs.CountTables.{keyOf, Assesses};
 
@@ -14,6 +13,7 @@ ghost use Rattle.votes.specs.CountTables.{keyOf, Assesses};
 pub(crate) fn candidates(
     shifted: &[u8],
     anchors: &[u8],
+    limit: usize,
     n: u8,
     t: u8,
     counts: &[u16],
@@ -21,7 +21,7 @@ pub(crate) fn candidates(
     fourth: u32,
 ) -> Candidates
     requires { ⌜ Assesses (now shifted) (now counts) (now votes) fourth ⌝ }
-    ensures { λ r. ⌜ r ≡ tabled (candidatesBelow searchLimit (now (shifted .entry)) (now (anchors .entry)) n t 256) ⌝ }
+    ensures { λ r. ⌜ r ≡ tabled (candidatesBelow limit (now (shifted .entry)) (now (anchors .entry)) n t 256) ⌝ }
 {
     let mut found = Candidates::none();
     let mut v: usize = 0;
@@ -30,7 +30,7 @@ pub(crate) fn candidates(
         let zeros = counts[v];
         let votes = votes[v];
         if is_candidate(zeros, votes, bv, fourth) {
-            let verified = is_verified(shifted, n, t, bv);
+            let verified = is_verified(shifted, limit, n, t, bv);
             let anchored = is_in(bv, anchors);
             found = found.with(Candidate {
                 bv,
@@ -59,13 +59,13 @@ fn is_candidate(zeros: u16, votes: u16, v: u8, fourth: u32) -> bool
 }
 
 // The row-count test, where the stored row count is not 0.
-fn is_verified(shifted: &[u8], n: u8, t: u8, bv: u8) -> bool
-    ensures { λ r. ⌜ r ≡ isVerified searchLimit (now (shifted .entry)) n t bv ⌝ }
+fn is_verified(shifted: &[u8], limit: usize, n: u8, t: u8, bv: u8) -> bool
+    ensures { λ r. ⌜ r ≡ isVerified limit (now (shifted .entry)) n t bv ⌝ }
 {
     if n == 0 {
         return false;
     }
-    slots::trailer_row_count_matches(shifted, bv, slots::SEARCH_LIMIT, n, t)
+    slots::trailer_row_count_matches(shifted, bv, limit, n, t)
 }
 
 // Whether a value is in a list.

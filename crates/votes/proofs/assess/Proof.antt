@@ -1,7 +1,6 @@
 -- The parts of the assessment, each by its function's promise.
 use mathlib.Core.Path.{sym, _∙_}
 use denote.Ref.{now}
-use Rattle.slots.specs.Slots.{searchLimit}
 use Rattle.votes.proofs.Assessments.{assesses-made, assessed-not, assessed-is, assessment-made}
 use borrow.Author.Needs.{needs}
 use Rattle.votes.proofs.assess.Statement.{statement}
@@ -21,7 +20,7 @@ returns-2 c =
     let l = c .before .before .before in
     let e = l .before .before .before in
     let a = e .before .before .before .before .before .args in
-    assessment-made searchLimit (now (a .shifted)) (now (a .anchors)) (a .n) (a .t) _ (e .exact-votes .result) _ _ (e .before .value-counts .ensures) (e .exact-votes .ensures) (l .leaders .ensures .top) (c .candidates .ensures)
+    assessment-made (a .limit) (now (a .shifted)) (now (a .anchors)) (a .n) (a .t) _ (e .exact-votes .result) _ _ (e .before .value-counts .ensures) (e .exact-votes .ensures) (l .leaders .ensures .top) (c .candidates .ensures)
     ∙ sym (assessed-is _ _ _ _ _ (search needs))
 
 pub assess-spec : {M : Type 1} → statement M

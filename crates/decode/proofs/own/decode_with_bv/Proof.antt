@@ -14,9 +14,8 @@ use Rattle.summary.specs.Page.{bytesOf}
 use Rattle.summary.specs.declared.pages.PageScan.{PageScan}
 use Rattle.summary.proofs.Replacements.{fresh-scan}
 use Rattle.verdict.specs.Verdict.{suppliedVerdict}
-use Rattle.slots.specs.Slots.{searchLimit}
 use Rattle.decode.specs.Decode.{deliveredOf, suppliedDecodingOf}
-use Rattle.decode.proofs.EntryCases.{lengths-ok, lengths-right, own-lengths, ends-lengths, ends-zeros, ends-page}
+use Rattle.decode.proofs.EntryCases.{entry-ok, entry-right, own-entry, ends-entry, ends-zeros, ends-page}
 use borrow.Author.Needs.{needs}
 use Rattle.decode.proofs.own.decode_with_bv.Statement.{statement}
 use Rattle.decode.proofs.own.decode_with_bv.Tie as tie
@@ -27,10 +26,11 @@ returns c =
     let a = c .before .before .before .before .before .before .args in
     let stored = now (a .stored) in
     let out = now (a .out) in
+    let lim = a .options .«search_limit» in
     let xs = bytesOf (a .number) stored in
-    let x = c .before .before .before .check-lengths in
+    let x = c .before .before .before .check-entry in
     let no = sym (c .before .before .accepted .ensures) ∙ not-true _ (c .before .if1 .taken) in
-    ends-lengths _ stored xs out (x .result) (c .refused .result) (x .ensures ∙ own-lengths (a .number) (length out) stored) no (c .refused .ensures)
+    ends-entry _ stored xs out lim (x .result) (c .refused .result) (x .ensures ∙ own-entry (a .number) (length out) lim stored) no (c .refused .ensures)
 
 returns-2 : tie.Need-returns-2
 unfolding suppliedDecodingOf
@@ -38,13 +38,14 @@ returns-2 c =
     let a = c .before .before .before .before .before .before .before .before .before .before .before .before .args in
     let stored = now (a .stored) in
     let out = now (a .out) in
+    let lim = a .options .«search_limit» in
     let xs = bytesOf (a .number) stored in
-    let x = c .before .before .before .before .before .before .before .before .before .check-lengths in
+    let x = c .before .before .before .before .before .before .before .before .before .check-entry in
     let t = c .before .before .before .before .before .before .before .before .accepted in
-    let ok = lengths-ok (x .result) (t .result) (length stored) (length out) (length xs) (x .ensures ∙ own-lengths (a .number) (length out) stored) (t .ensures) (not-false _ (c .before .before .before .before .before .before .before .if1 .left)) in
-    let n = lengths-right (length stored) (length out) (length xs) ok in
+    let ok = entry-ok (x .result) (t .result) (length stored) (length out) (length xs) lim (x .ensures ∙ own-entry (a .number) (length out) lim stored) (t .ensures) (not-false _ (c .before .before .before .before .before .before .before .if1 .left)) in
+    let n = entry-right (length stored) (length out) (length xs) lim ok in
     let z = sym (c .before .before .before .before .before .before .is-unallocated .ensures) ∙ c .before .before .before .before .before .if2 .taken in
-    let e = ends-zeros _ stored xs out ok z (c .unallocated .result) (c .unallocated .ensures) in
+    let e = ends-zeros _ stored xs out lim ok z (c .unallocated .result) (c .unallocated .ensures) in
     (e .0, c .before .before .before .copy .ensures ∙ copied-same stored out (n .0 ∙ sym (n .1)) ∙ e .1)
 
 shared-slice-read-decide-supplied : tie.Need-shared-slice-read-decide-supplied
@@ -52,11 +53,12 @@ shared-slice-read-decide-supplied c =
     let a = c .before .before .before .before .before .before .before .before .before .before .before .before .before .args in
     let stored = now (a .stored) in
     let out = now (a .out) in
+    let lim = a .options .«search_limit» in
     let xs = bytesOf (a .number) stored in
-    let x = c .before .before .before .before .before .before .before .before .before .before .check-lengths in
+    let x = c .before .before .before .before .before .before .before .before .before .before .check-entry in
     let t = c .before .before .before .before .before .before .before .before .before .accepted in
-    let ok = lengths-ok (x .result) (t .result) (length stored) (length out) (length xs) (x .ensures ∙ own-lengths (a .number) (length out) stored) (t .ensures) (not-false _ (c .before .before .before .before .before .before .before .before .if1 .left)) in
-    let n = lengths-right (length stored) (length out) (length xs) ok in
+    let ok = entry-ok (x .result) (t .result) (length stored) (length out) (length xs) lim (x .ensures ∙ own-entry (a .number) (length out) lim stored) (t .ensures) (not-false _ (c .before .before .before .before .before .before .before .before .if1 .left)) in
+    let n = entry-right (length stored) (length out) (length xs) lim ok in
     omega (arith, n .0)
 
 deliver-requires : tie.Need-deliver-requires
@@ -64,11 +66,12 @@ deliver-requires c κs =
     let a = c .before .before .before .before .before .before .before .before .before .before .before .before .before .before .before .before .before .args in
     let stored = now (a .stored) in
     let out = now (a .out) in
+    let lim = a .options .«search_limit» in
     let xs = bytesOf (a .number) stored in
-    let x = c .before .before .before .before .before .before .before .before .before .before .before .before .before .before .check-lengths in
+    let x = c .before .before .before .before .before .before .before .before .before .before .before .before .before .before .check-entry in
     let t = c .before .before .before .before .before .before .before .before .before .before .before .before .before .accepted in
-    let ok = lengths-ok (x .result) (t .result) (length stored) (length out) (length xs) (x .ensures ∙ own-lengths (a .number) (length out) stored) (t .ensures) (not-false _ (c .before .before .before .before .before .before .before .before .before .before .before .before .if1 .left)) in
-    let n = lengths-right (length stored) (length out) (length xs) ok in
+    let ok = entry-ok (x .result) (t .result) (length stored) (length out) (length xs) lim (x .ensures ∙ own-entry (a .number) (length out) lim stored) (t .ensures) (not-false _ (c .before .before .before .before .before .before .before .before .before .before .before .before .if1 .left)) in
+    let n = entry-right (length stored) (length out) (length xs) lim ok in
     (n .0, n .1, search needs)
 
 returns-3 : tie.Need-returns-3
@@ -77,11 +80,12 @@ returns-3 c =
     let a = c .before .before .before .before .before .before .before .before .before .before .before .before .before .before .before .before .before .before .before .before .args in
     let stored = now (a .stored) in
     let out = now (a .out) in
+    let lim = a .options .«search_limit» in
     let xs = bytesOf (a .number) stored in
-    let x = c .before .before .before .before .before .before .before .before .before .before .before .before .before .before .before .before .before .check-lengths in
+    let x = c .before .before .before .before .before .before .before .before .before .before .before .before .before .before .before .before .before .check-entry in
     let t = c .before .before .before .before .before .before .before .before .before .before .before .before .before .before .before .before .accepted in
-    let ok = lengths-ok (x .result) (t .result) (length stored) (length out) (length xs) (x .ensures ∙ own-lengths (a .number) (length out) stored) (t .ensures) (not-false _ (c .before .before .before .before .before .before .before .before .before .before .before .before .before .before .before .if1 .left)) in
-    let n = lengths-right (length stored) (length out) (length xs) ok in
+    let ok = entry-ok (x .result) (t .result) (length stored) (length out) (length xs) lim (x .ensures ∙ own-entry (a .number) (length out) lim stored) (t .ensures) (not-false _ (c .before .before .before .before .before .before .before .before .before .before .before .before .before .before .before .if1 .left)) in
+    let n = entry-right (length stored) (length out) (length xs) lim ok in
     let room = c .before .before .before .before .before .before .before .before .before .before .before .before .room in
     let s = c .before .before .before .before .before .before .before .before .before .before .scan-page in
     let f = fresh-scan (a .number) stored (room .result) (n .0) (room .ensures) in
@@ -92,8 +96,8 @@ returns-3 c =
     let d = c .before .before .deliver in
     let q =
     v .ensures
-    ∙ ap₂ (λ (g : List Fit) (l : List ℕ). suppliedVerdict searchLimit (a .number) (a .bv) (rowCount stored) g l (a .options)) fits bytes in
-    ends-page _ stored xs out ok z (v .result) _ q (d .ensures ∙ ap₂ (λ (u : Decoding) (l : List ℕ). deliveredOf (u .choice) stored l out) q bytes)
+    ∙ ap₂ (λ (g : List Fit) (l : List ℕ). suppliedVerdict (a .number) (a .bv) (rowCount stored) g l (a .options)) fits bytes in
+    ends-page _ stored xs out lim ok z (v .result) _ q (d .ensures ∙ ap₂ (λ (u : Decoding) (l : List ℕ). deliveredOf (u .choice) stored l out) q bytes)
 
 pub decode-with-bv-spec : {M : Type 1} → statement M
 decode-with-bv-spec =

@@ -7,7 +7,7 @@ use lib.ListN.{length}
 use Rattle.numbers.proofs.Copies.{copied-same}
 use Rattle.verdict.specs.declared.Decoding.{Decoding}
 use Rattle.decode.specs.Decode.{deliveredOf, suppliedDecodingOf}
-use Rattle.decode.proofs.EntryCases.{lengths-ok, lengths-right, ends-lengths, ends-zeros, ends-page}
+use Rattle.decode.proofs.EntryCases.{entry-ok, entry-right, ends-entry, ends-zeros, ends-page}
 use borrow.Author.Needs.{needs}
 use Rattle.decode.proofs.summaries.decode_summary_with_bv.Statement.{statement}
 use Rattle.decode.proofs.summaries.decode_summary_with_bv.Tie as tie
@@ -18,10 +18,11 @@ returns c =
     let a = c .before .before .before .before .before .before .before .args in
     let stored = now (a .stored) in
     let out = now (a .out) in
+    let lim = a .options .«search_limit» in
     let xs = now (a .shifted) in
-    let x = c .before .before .before .check-lengths in
+    let x = c .before .before .before .check-entry in
     let no = sym (c .before .before .accepted .ensures) ∙ not-true _ (c .before .if1 .taken) in
-    ends-lengths _ stored xs out (x .result) (c .refused .result) (x .ensures) no (c .refused .ensures)
+    ends-entry _ stored xs out lim (x .result) (c .refused .result) (x .ensures) no (c .refused .ensures)
 
 returns-2 : tie.Need-returns-2
 unfolding suppliedDecodingOf
@@ -29,13 +30,14 @@ returns-2 c =
     let a = c .before .before .before .before .before .before .before .before .before .before .before .before .before .args in
     let stored = now (a .stored) in
     let out = now (a .out) in
+    let lim = a .options .«search_limit» in
     let xs = now (a .shifted) in
-    let x = c .before .before .before .before .before .before .before .before .before .check-lengths in
+    let x = c .before .before .before .before .before .before .before .before .before .check-entry in
     let t = c .before .before .before .before .before .before .before .before .accepted in
-    let ok = lengths-ok (x .result) (t .result) (length stored) (length out) (length xs) (x .ensures) (t .ensures) (not-false _ (c .before .before .before .before .before .before .before .if1 .left)) in
-    let n = lengths-right (length stored) (length out) (length xs) ok in
+    let ok = entry-ok (x .result) (t .result) (length stored) (length out) (length xs) lim (x .ensures) (t .ensures) (not-false _ (c .before .before .before .before .before .before .before .if1 .left)) in
+    let n = entry-right (length stored) (length out) (length xs) lim ok in
     let z = sym (c .before .before .before .before .before .before .is-unallocated .ensures) ∙ c .before .before .before .before .before .if2 .taken in
-    let e = ends-zeros _ stored xs out ok z (c .unallocated .result) (c .unallocated .ensures) in
+    let e = ends-zeros _ stored xs out lim ok z (c .unallocated .result) (c .unallocated .ensures) in
     (e .0, c .before .before .before .copy .ensures ∙ copied-same stored out (n .0 ∙ sym (n .1)) ∙ e .1)
 
 shared-slice-read-decide-supplied : tie.Need-shared-slice-read-decide-supplied
@@ -43,11 +45,12 @@ shared-slice-read-decide-supplied c =
     let a = c .before .before .before .before .before .before .before .before .before .args in
     let stored = now (a .stored) in
     let out = now (a .out) in
+    let lim = a .options .«search_limit» in
     let xs = now (a .shifted) in
-    let x = c .before .before .before .before .before .check-lengths in
+    let x = c .before .before .before .before .before .check-entry in
     let t = c .before .before .before .before .accepted in
-    let ok = lengths-ok (x .result) (t .result) (length stored) (length out) (length xs) (x .ensures) (t .ensures) (not-false _ (c .before .before .before .if1 .left)) in
-    let n = lengths-right (length stored) (length out) (length xs) ok in
+    let ok = entry-ok (x .result) (t .result) (length stored) (length out) (length xs) lim (x .ensures) (t .ensures) (not-false _ (c .before .before .before .if1 .left)) in
+    let n = entry-right (length stored) (length out) (length xs) lim ok in
     omega (arith, n .0)
 
 deliver-requires : tie.Need-deliver-requires
@@ -55,11 +58,12 @@ deliver-requires c κs =
     let a = c .before .before .before .before .before .before .before .before .before .before .before .args in
     let stored = now (a .stored) in
     let out = now (a .out) in
+    let lim = a .options .«search_limit» in
     let xs = now (a .shifted) in
-    let x = c .before .before .before .before .before .before .before .check-lengths in
+    let x = c .before .before .before .before .before .before .before .check-entry in
     let t = c .before .before .before .before .before .before .accepted in
-    let ok = lengths-ok (x .result) (t .result) (length stored) (length out) (length xs) (x .ensures) (t .ensures) (not-false _ (c .before .before .before .before .before .if1 .left)) in
-    let n = lengths-right (length stored) (length out) (length xs) ok in
+    let ok = entry-ok (x .result) (t .result) (length stored) (length out) (length xs) lim (x .ensures) (t .ensures) (not-false _ (c .before .before .before .before .before .if1 .left)) in
+    let n = entry-right (length stored) (length out) (length xs) lim ok in
     (n .0, n .1, n .2)
 
 returns-3 : tie.Need-returns-3
@@ -68,14 +72,15 @@ returns-3 c =
     let a = c .before .before .before .before .before .before .before .before .before .before .before .before .before .before .args in
     let stored = now (a .stored) in
     let out = now (a .out) in
+    let lim = a .options .«search_limit» in
     let xs = now (a .shifted) in
-    let x = c .before .before .before .before .before .before .before .before .before .before .check-lengths in
+    let x = c .before .before .before .before .before .before .before .before .before .before .check-entry in
     let t = c .before .before .before .before .before .before .before .before .before .accepted in
-    let ok = lengths-ok (x .result) (t .result) (length stored) (length out) (length xs) (x .ensures) (t .ensures) (not-false _ (c .before .before .before .before .before .before .before .before .if1 .left)) in
+    let ok = entry-ok (x .result) (t .result) (length stored) (length out) (length xs) lim (x .ensures) (t .ensures) (not-false _ (c .before .before .before .before .before .before .before .before .if1 .left)) in
     let z = sym (c .before .before .before .before .before .before .before .is-unallocated .ensures) ∙ c .before .before .before .before .before .before .if2 .left in
     let v = c .before .before .before .before .decide-supplied in
     let d = c .before .before .deliver in
-    ends-page _ stored xs out ok z (v .result) _ (v .ensures) (d .ensures ∙ ap (λ (u : Decoding). deliveredOf (u .choice) stored xs out) (v .ensures))
+    ends-page _ stored xs out lim ok z (v .result) _ (v .ensures) (d .ensures ∙ ap (λ (u : Decoding). deliveredOf (u .choice) stored xs out) (v .ensures))
 
 pub decode-summary-with-bv-spec : {M : Type 1} → statement M
 decode-summary-with-bv-spec =

@@ -7,7 +7,6 @@ use lib.ListN.{length}
 use Rattle.answers.specs.declared.settings.Options.{Options}
 use Rattle.decode.specs.Decode.{decodingOf}
 use Rattle.summary.specs.Page.{fitsOf, bytesOf}
-use Rattle.slots.specs.Slots.{searchLimit}
 use Rattle.lumeviqo.proofs.Calls.{decoding-short, decoding-made}
 use Rattle.lumeviqo.proofs.decodings.lumeviqo_decode.Statement.{statement}
 use Rattle.lumeviqo.proofs.decodings.lumeviqo_decode.Tie as tie
@@ -22,7 +21,7 @@ returns-2 c =
     decoding-made _
     (omega (arith, room .if1 .left))
     refl
-    (found .decode-page .ensures .0 ∙ ap (λ (o : Options). decodingOf searchLimit (a .number) (now (a .stored)) (fitsOf (a .number) (now (a .stored))) (bytesOf (a .number) (now (a .stored))) (now (a .anchors)) o (length (now (a .out)))) (settings .new .ensures))
+    (found .decode-page .ensures .0 ∙ ap (λ (o : Options). decodingOf (a .number) (now (a .stored)) (fitsOf (a .number) (now (a .stored))) (bytesOf (a .number) (now (a .stored))) (now (a .anchors)) o (length (now (a .out)))) (settings .new .ensures))
     (found .decode-page .ensures .1)
     (write .write-decoding .ensures)
 

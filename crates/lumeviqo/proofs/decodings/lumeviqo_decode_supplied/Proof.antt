@@ -7,7 +7,6 @@ use lib.ListN.{length}
 use Rattle.answers.specs.declared.settings.Options.{Options}
 use Rattle.decode.specs.Decode.{suppliedDecodingOf}
 use Rattle.summary.specs.Page.{fitsOf, bytesOf}
-use Rattle.slots.specs.Slots.{searchLimit}
 use Rattle.lumeviqo.proofs.Calls.{decoding-short, decoding-made}
 use Rattle.lumeviqo.proofs.decodings.lumeviqo_decode_supplied.Statement.{statement}
 use Rattle.lumeviqo.proofs.decodings.lumeviqo_decode_supplied.Tie as tie
@@ -22,7 +21,7 @@ returns-2 c =
     decoding-made _
     (omega (arith, room .if1 .left))
     refl
-    (found .decode-with-bv .ensures .0 ∙ ap (λ (o : Options). suppliedDecodingOf searchLimit (a .number) (a .bv) (now (a .stored)) (fitsOf (a .number) (now (a .stored))) (bytesOf (a .number) (now (a .stored))) o (length (now (a .out)))) (settings .new .ensures))
+    (found .decode-with-bv .ensures .0 ∙ ap (λ (o : Options). suppliedDecodingOf (a .number) (a .bv) (now (a .stored)) (fitsOf (a .number) (now (a .stored))) (bytesOf (a .number) (now (a .stored))) o (length (now (a .out)))) (settings .new .ensures))
     (found .decode-with-bv .ensures .1)
     (write .write-decoding .ensures)
 

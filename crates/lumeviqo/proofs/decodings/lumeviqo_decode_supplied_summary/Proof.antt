@@ -10,7 +10,6 @@ use Rattle.decode.specs.Decode.{suppliedDecodingOf}
 use Rattle.sector.specs.declared.fits.Fit.{Fit}
 use mathlib.Core.List.{List}
 use Rattle.parts.specs.Lent.{fitsIn}
-use Rattle.slots.specs.Slots.{searchLimit}
 use Rattle.lumeviqo.proofs.Calls.{decoding-short, decoding-not, decoding-made}
 use Rattle.lumeviqo.proofs.decodings.lumeviqo_decode_supplied_summary.Statement.{statement}
 use Rattle.lumeviqo.proofs.decodings.lumeviqo_decode_supplied_summary.Tie as tie
@@ -31,8 +30,8 @@ returns-3 c =
     (omega (arith, room .if1 .left))
     (sym (well .before .fits-lent .ensures) ∙ not-back (well .if2 .left))
     (found .decode-summary-with-bv .ensures .0
-    ∙ ap (λ (f : List Fit). suppliedDecodingOf searchLimit (a .number) (a .bv) (now (a .stored)) f (now (a .shifted)) (settings .new .result) (length (now (a .out)))) (lent .fits-in .ensures)
-    ∙ ap (λ (o : Options). suppliedDecodingOf searchLimit (a .number) (a .bv) (now (a .stored)) (fitsIn (now (a .fits))) (now (a .shifted)) o (length (now (a .out)))) (settings .new .ensures))
+    ∙ ap (λ (f : List Fit). suppliedDecodingOf (a .number) (a .bv) (now (a .stored)) f (now (a .shifted)) (settings .new .result) (length (now (a .out)))) (lent .fits-in .ensures)
+    ∙ ap (λ (o : Options). suppliedDecodingOf (a .number) (a .bv) (now (a .stored)) (fitsIn (now (a .fits))) (now (a .shifted)) o (length (now (a .out)))) (settings .new .ensures))
     (found .decode-summary-with-bv .ensures .1)
     (write .write-decoding .ensures)
 

@@ -5,7 +5,6 @@ use denote.Ref.{now}
 use Rattle.numbers.proofs.Stored.{wrote-same}
 use Rattle.answers.specs.Settings.{directory}
 use Rattle.answers.specs.declared.settings.Options.{Options}
-use Rattle.slots.specs.Slots.{searchLimit}
 use Rattle.slotted.specs.Parses.{parsedOf}
 use Rattle.parse_layout.specs.ParseLayouts.{parseBytes}
 use Rattle.lumeviqo.proofs.directories.lumeviqo_parse.Statement.{statement}
@@ -17,7 +16,7 @@ returns c =
     let options = write .before .before in
     let a = options .before .before .before .args in
     wrote-same
-    (ap (λ (o : Options). parseBytes (parsedOf searchLimit (a .number) (now (a .plain)) (directory o))) (options .new .ensures))
+    (ap (λ (o : Options). parseBytes (parsedOf (o .«search_limit») (a .number) (now (a .plain)) (directory o))) (options .new .ensures))
     (write .write-parse .ensures)
 
 pub lumeviqo-parse-spec : {M : Type 1} → statement M

@@ -8,7 +8,6 @@ use Rattle.answers.specs.declared.settings.Options.{Options}
 use Rattle.rows.specs.RowAnswers.{rowFoundOf}
 use Rattle.rows.specs.declared.spans.RowFound.{RowFound}
 use Rattle.row_layout.specs.RowLayouts.{rowBytes}
-use Rattle.slots.specs.Slots.{searchLimit}
 use Rattle.lumeviqo.proofs.directories.lumeviqo_row.Statement.{statement}
 use Rattle.lumeviqo.proofs.directories.lumeviqo_row.Tie as tie
 
@@ -21,7 +20,7 @@ returns c =
     wrote-same
     (ap (λ (f : RowFound). rowBytes (f .answer) (f .span))
     (found .row-found .ensures
-    ∙ ap (λ (o : Options). rowFoundOf searchLimit (a .number) (now (a .plain)) (directory o) (a .row)) (options .new .ensures)))
+    ∙ ap (λ (o : Options). rowFoundOf (o .«search_limit») (a .number) (now (a .plain)) (directory o) (a .row)) (options .new .ensures)))
     (write .write-row .ensures)
 
 pub lumeviqo-row-spec : {M : Type 1} → statement M

@@ -8,7 +8,6 @@ use Rattle.answers.specs.declared.settings.Options.{Options}
 use Rattle.rows.specs.RowAnswers.{rowsCountedOf}
 use Rattle.rows.specs.declared.spans.RowsCounted.{RowsCounted}
 use Rattle.row_layout.specs.RowLayouts.{rowCountBytes}
-use Rattle.slots.specs.Slots.{searchLimit}
 use Rattle.lumeviqo.proofs.directories.lumeviqo_row_count.Statement.{statement}
 use Rattle.lumeviqo.proofs.directories.lumeviqo_row_count.Tie as tie
 
@@ -21,7 +20,7 @@ returns c =
     wrote-same
     (ap (λ (f : RowsCounted). rowCountBytes (f .answer) (f .rows))
     (found .rows-counted .ensures
-    ∙ ap (λ (o : Options). rowsCountedOf searchLimit (a .number) (now (a .plain)) (directory o)) (options .new .ensures)))
+    ∙ ap (λ (o : Options). rowsCountedOf (o .«search_limit») (a .number) (now (a .plain)) (directory o)) (options .new .ensures)))
     (write .write-row-count .ensures)
 
 pub lumeviqo-row-count-spec : {M : Type 1} → statement M

@@ -5,7 +5,6 @@ use denote.Ref.{now}
 use Rattle.numbers.proofs.Stored.{wrote-same}
 use Rattle.answers.specs.Settings.{directory}
 use Rattle.answers.specs.declared.settings.Options.{Options}
-use Rattle.slots.specs.Slots.{searchLimit}
 use Rattle.row_layout.specs.RowLayouts.{pageRowsBytes}
 use Rattle.lumeviqo.proofs.directories.lumeviqo_rows.Statement.{statement}
 use Rattle.lumeviqo.proofs.directories.lumeviqo_rows.Tie as tie
@@ -16,7 +15,7 @@ returns c =
     let options = write .before .before in
     let a = options .before .before .before .args in
     wrote-same
-    (ap (λ (o : Options). pageRowsBytes searchLimit (a .number) (now (a .plain)) (directory o)) (options .new .ensures))
+    (ap (λ (o : Options). pageRowsBytes (o .«search_limit») (a .number) (now (a .plain)) (directory o)) (options .new .ensures))
     (write .write-rows .ensures)
 
 pub lumeviqo-rows-spec : {M : Type 1} → statement M

@@ -35,9 +35,10 @@ decode-frame-requires c κs =
     let p = g .0 .0 in
     let o = g .0 .1 .0 in
     let t = g .0 .1 .1 .0 in
-    let n = g .0 .1 .1 .1 .0 in
+    let lim = g .0 .1 .1 .1 .0 in
+    let n = g .0 .1 .1 .1 .1 .0 in
     let k : length (f .last .1 .0) ≡ length (room .result) = f .kept .1 .0 in
-    omega (arith, room .ensures, good-count l (f .result) p o t n e (g .1))
+    omega (arith, room .ensures, good-count l (f .result) p o t lim n e (g .1))
 
 returns-3 : tie.Need-returns-3
 returns-3 c =
@@ -50,11 +51,12 @@ returns-3 c =
     let p = g .0 .0 in
     let o = g .0 .1 .0 in
     let t = g .0 .1 .1 .0 in
-    let n = g .0 .1 .1 .1 .0 in
+    let lim = g .0 .1 .1 .1 .0 in
+    let n = g .0 .1 .1 .1 .1 .0 in
     let d = c .before .before .before .before .decode-frame in
     let w = c .before .before .put-reply in
     replied l (a .out .now) (c .before .before .before .before .before .before .before .before .before .before .before .before .before .if1 .left) (lineOf (reportBytes p (d .result))) (w .last .1 .1 .0) (w .result)
-    (good-reply l (f .result) p o t n e (g .1) (room .result) (f .last .1 .0) (d .result) (omega (arith, room .ensures)) (f .ensures .1) (d .ensures))
+    (good-reply l (f .result) p o t lim n e (g .1) (room .result) (f .last .1 .0) (d .result) (omega (arith, room .ensures)) (f .ensures .1) (d .ensures))
     (w .ensures .0) (w .ensures .1)
 
 pub reply-to-spec : {M : Type 1} → statement M

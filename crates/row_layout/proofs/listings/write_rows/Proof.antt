@@ -4,7 +4,6 @@ use Prim.Native.Nat.{_<_}
 use native.Mathlib.Omega.{arith}
 use Rattle.lists.specs.Bytes.{byteAt}
 use Rattle.answers.specs.Settings.{directory}
-use Rattle.slots.specs.Slots.{searchLimit}
 use Rattle.slotted.proofs.Located.{sound-located}
 use Rattle.slotted.proofs.Meaning.{located-few}
 use Rattle.fields.proofs.Puts.{layout-short}
@@ -19,8 +18,8 @@ put-rows-requires c κs =
     let known = l .before .before in
     let a = known .before .before .args in
     let small : byteAt (a .plain .now) 0xFF0 < 256 = omega (arith, known .shared-slice-known .given 0xFF0) in (
-      sound-located searchLimit (a .number) (a .plain .now) (directory (a .options)) (l .locate .result) (l .locate .ensures),
-      located-few (a .number) (a .plain .now) (directory (a .options)) small (l .locate .result) (l .locate .ensures),
+      sound-located (a .options .«search_limit») (a .number) (a .plain .now) (directory (a .options)) (l .locate .result) (l .locate .ensures),
+      located-few (a .options .«search_limit») (a .number) (a .plain .now) (directory (a .options)) small (l .locate .result) (l .locate .ensures),
     )
 
 returns-2 : tie.Need-returns-2
@@ -30,7 +29,7 @@ returns-2 c =
     let l = answer .before .before .before in
     let known = l .before .before in
     let a = known .before .before .args in
-    rows-written (a .number) (a .plain .now) (directory (a .options)) (omega (arith, known .shared-slice-known .given 0xFF0)) (l .locate .result) (l .locate .ensures)
+    rows-written (a .options .«search_limit») (a .number) (a .plain .now) (directory (a .options)) (omega (arith, known .shared-slice-known .given 0xFF0)) (l .locate .result) (l .locate .ensures)
     (answer .put-answer .ensures) (rows .put-rows .ensures) (omega arith)
 
 pub write-rows-spec : {M : Type 1} → statement M

@@ -45,7 +45,6 @@ use Rattle.answers.specs.Settings.{directory}
 use Rattle.answers.specs.declared.settings.Options.{Options}
 use Rattle.answers.proofs.settings.Options as O
 use Rattle.answers.proofs.settings.Options.Laws as O′
-use Rattle.slots.specs.Slots.{searchLimit}
 use Rattle.rows.specs.Rows.{startOf, IsPart, IsRow}
 use Rattle.rows.specs.RowAnswers.{rowOf}
 use Rattle.rows.specs.declared.spans.Row.{Row}
@@ -98,7 +97,7 @@ module _ {M : Type 1} (𝓤 : URA M) (H : Heap 𝓤) (A : Atoms 𝓤) (W : Given
   vo = LL.val O.the-type O′.the-laws o
 
   abbrev ans : Span
-  ans = rowOf searchLimit (now s) (directory o) n
+  ans = rowOf (o .«search_limit») (now s) (directory o) n
 
   abbrev made : ℕ → RefT (List ℕ) → Row
   made k p = record { offset = k; bytes = p; exact = false }
@@ -142,7 +141,7 @@ module _ {M : Type 1} (𝓤 : URA M) (H : Heap 𝓤) (A : Atoms 𝓤) (W : Given
     asked-bytes : ent 𝓤 (onEntry 𝓤 H A bytes.signature (κ, tt) (q, tt) (s, (a, tt)) (v s ∷ [], (u ∷ [], tt))) (Bytes 𝓤 H A mem run .pre (to-bytes a u))
     asked-bytes =
         qed W ((‵ (flft κ q) ⊛ ‵ ftrue) ∷ ‵ (owns (ShrSlice (named 0) κ u8 ∷ S.the-row ∷ []) (s, (a, tt)) (v s ∷ [], (u ∷ [], tt))) ∷ []) ∵
-        says ! (row-within searchLimit (now s) (directory o) n a e) $ frame ! $ done !
+        says ! (row-within (o .«search_limit») (now s) (directory o) n a e) $ frame ! $ done !
 
     goes-bytes : Is S.the-row a (u ∷ []) → ent 𝓤 (⋆ 𝓤 H A (‵ (Own s (v s)) ∷ (‵ (flft κ q) ⊛ ‵ ftrue) ∷ [])) (sep 𝓤 (Bytes 𝓤 H A mem run .pre (to-bytes a u)) (sem 𝓤 H A (Own s (v s))))
     goes-bytes is =

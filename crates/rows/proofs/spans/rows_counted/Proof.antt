@@ -1,7 +1,6 @@
 -- `rows_counted` meets its contract: the answer of the parse, and the rows of what it lists.
 use mathlib.Core.Path.{ap, _∙_}
 use Rattle.answers.specs.Settings.{directory}
-use Rattle.slots.specs.Slots.{searchLimit}
 use Rattle.directory.specs.Decisions.{decisionOf}
 use lib.ListN.{length}
 use Rattle.directory.proofs.Decisions.{sound-decided}
@@ -14,16 +13,16 @@ use Rattle.rows.proofs.spans.rows_counted.Tie as tie
 count-at-requires : tie.Need-count-at-requires
 count-at-requires c κs =
     let d = c .before .before in
-    sound-decided searchLimit _ _ (d .decide .result) (d .decide .ensures)
+    sound-decided _ _ _ (d .decide .result) (d .decide .ensures)
 
 returns : tie.Need-returns
 returns c =
     let v = c .before in
     let d = v .before .before in
     let a = d .before .before .before .args in
-    let e = d .decide .ensures ∙ ap (decisionOf searchLimit (a .plain .now)) (d .before .directory .ensures) in
-    let x = answer-is searchLimit (a .number) (a .plain .now) (directory (a .options)) (d .decide .result) e (v .answer .result) (v .answer .ensures) in
-    let y = c .count-at .ensures ∙ ap length (rows-decided searchLimit (a .plain .now) (directory (a .options)) (d .decide .result) e) in
+    let e = d .decide .ensures ∙ ap (decisionOf (a .options .«search_limit») (a .plain .now)) (d .before .directory .ensures) in
+    let x = answer-is (a .options .«search_limit») (a .number) (a .plain .now) (directory (a .options)) (d .decide .result) e (v .answer .result) (v .answer .ensures) in
+    let y = c .count-at .ensures ∙ ap length (rows-decided (a .options .«search_limit») (a .plain .now) (directory (a .options)) (d .decide .result) e) in
     λ i. record { answer = x i; rows = y i }
 
 pub rows-counted-spec : {M : Type 1} → statement M

@@ -1,7 +1,6 @@
 -- `parse_answer` meets its contract: the answer of the parse is that of its decision.
 use mathlib.Core.Path.{ap, _∙_}
 use Rattle.answers.specs.Settings.{directory}
-use Rattle.slots.specs.Slots.{searchLimit}
 use Rattle.directory.specs.Decisions.{decisionOf}
 use Rattle.slotted.proofs.Parses.{answer-is}
 use borrow.Author.Needs.{needs}
@@ -12,8 +11,8 @@ returns : tie.Need-returns
 returns c =
     let d = c .before in
     let a = d .before .before .before .args in
-    answer-is searchLimit (a .number) (a .plain .now) (directory (a .options)) (d .decide .result)
-    (d .decide .ensures ∙ ap (decisionOf searchLimit (a .plain .now)) (d .before .directory .ensures))
+    answer-is (a .options .«search_limit») (a .number) (a .plain .now) (directory (a .options)) (d .decide .result)
+    (d .decide .ensures ∙ ap (decisionOf (a .options .«search_limit») (a .plain .now)) (d .before .directory .ensures))
     (c .answer .result) (c .answer .ensures)
 
 pub parse-answer-spec : {M : Type 1} → statement M

@@ -2,21 +2,20 @@
 use mathlib.Core.Path.{sym, _∙_}
 use denote.Ref.{now}
 use Rattle.choice.proofs.ChoiceCases.{choice-length}
-use Rattle.slots.specs.Slots.{searchLimit}
 use Rattle.verdict.proofs.DecisionCases.{taken-sized, verdict-refused, verdict-settled}
 use borrow.Author.Needs.{needs}
 use Rattle.verdict.proofs.decisions.decide.Statement.{statement}
 use Rattle.verdict.proofs.decisions.decide.Tie as tie
 
 returns : tie.Need-returns
-returns c = c .refused .ensures ∙ sym (verdict-refused searchLimit _ _ _ _ _ _ _ (sym (c .before .before .is-refused .ensures) ∙ c .before .if1 .taken))
+returns c = c .refused .ensures ∙ sym (verdict-refused _ _ _ _ _ _ _ (sym (c .before .before .is-refused .ensures) ∙ c .before .if1 .taken))
 
 settle-requires : tie.Need-settle-requires
 settle-requires c κs =
     let place = c .before .before in
     let choice = place .choose-bv in
     let a = place .before .before .before .before .before .before .before .before .args in
-    taken-sized (now (a .shifted)) (choice .result) (λ n. choice .ensures ∙ choice-length searchLimit _ _ _ _ _ n)
+    taken-sized (now (a .shifted)) (choice .result) (λ n. choice .ensures ∙ choice-length _ _ _ _ _ n)
 
 returns-2 : tie.Need-returns-2
 returns-2 c =
@@ -28,7 +27,7 @@ returns-2 c =
     let free = sym (warning .before .before .is-refused .ensures) ∙ warning .before .if1 .left in
     c .settle .ensures
     ∙ rw (keystream .keystream .ensures, choice .choose-bv .ensures, note .note .ensures, none .none .ensures, warning .integrity-warning .ensures)
-    (sym (verdict-settled searchLimit _ _ _ _ _ _ _ free))
+    (sym (verdict-settled _ _ _ _ _ _ _ free))
 
 pub decide-spec : {M : Type 1} → statement M
 decide-spec =

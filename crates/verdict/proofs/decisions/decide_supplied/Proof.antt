@@ -2,7 +2,6 @@
 use mathlib.Core.Path.{_∙_}
 use denote.Ref.{now}
 use Rattle.choice.proofs.ChoiceCases.{supplied-length}
-use Rattle.slots.specs.Slots.{searchLimit}
 use Rattle.verdict.proofs.DecisionCases.{taken-sized}
 use borrow.Author.Needs.{needs}
 use Rattle.verdict.proofs.decisions.decide_supplied.Statement.{statement}
@@ -12,7 +11,7 @@ settle-requires : tie.Need-settle-requires
 settle-requires c κs =
     let place = c .before .before .before in
     let choice = place .supplied-bv in
-    taken-sized (now (place .before .before .args .shifted)) (choice .result) (λ n. choice .ensures ∙ supplied-length searchLimit _ _ _ _ _ n)
+    taken-sized (now (place .before .before .args .shifted)) (choice .result) (λ n. choice .ensures ∙ supplied-length _ _ _ _ _ n)
 
 returns : tie.Need-returns
 returns c =

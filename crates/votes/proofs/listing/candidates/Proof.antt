@@ -5,17 +5,16 @@ use native.Mathlib.Omega.{arith}
 use mathlib.Core.Path.{_≡_, sym, ap, ap₂, _∙_}
 use mathlib.Core.Logic.{⊎-elim}
 use denote.Ref.{now}
-use Rattle.slots.specs.Slots.{searchLimit}
 use Rattle.votes.specs.Votes.{candidatesBelow, tabled, withCandidate}
 use Rattle.votes.proofs.Assessments.{assesses-long, candidate-passes, candidate-made, tableBelow, table-none, table-no, table-yes}
 use Rattle.votes.proofs.listing.candidates.Statement.{statement}
 use Rattle.votes.proofs.listing.candidates.Tie as tie
 
 abbrev Inv-loop : tie.InvT-loop
-Inv-loop shifted anchors n t counts votes fourth found₀ v₀ found v = (v ≤ 256) × (found ≡ tabled (candidatesBelow searchLimit shifted anchors n t v))
+Inv-loop shifted anchors limit n t counts votes fourth found₀ v₀ found v = (v ≤ 256) × (found ≡ tabled (candidatesBelow limit shifted anchors n t v))
 
 abbrev μ-loop : tie.MeasureT-loop
-μ-loop shifted anchors n t counts votes fourth found₀ v₀ found v = 256 - v
+μ-loop shifted anchors limit n t counts votes fourth found₀ v₀ found v = 256 - v
 
 loop-holds : tie.Need-loop-holds Inv-loop μ-loop
 loop-holds c = (search needs, c .none .ensures ∙ table-none _ _ _ _ _)
@@ -38,7 +37,7 @@ loop-again c =
           (λ w.
           w .4
           ∙ w .3 .ensures
-          ∙ ap₂ withCandidate (l .inv .1) (candidate-made searchLimit (now (a .shifted)) (now (a .anchors)) (a .n) (a .t) _ _ _ (l .v) _ _ (s .pre) (w .1 .ensures) (w .2 .ensures))
+          ∙ ap₂ withCandidate (l .inv .1) (candidate-made (a .limit) (now (a .shifted)) (now (a .anchors)) (a .n) (a .t) _ _ _ (l .v) _ _ (s .pre) (w .1 .ensures) (w .2 .ensures))
           ∙ sym (table-yes _ _ _ _ _ (l .v) (p ∙ sym (i .is-candidate .ensures) ∙ w .0 .taken)))
           (λ w. w .1 ∙ l .inv .1 ∙ sym (table-no _ _ _ _ _ (l .v) (p ∙ sym (i .is-candidate .ensures) ∙ w .0 .left)))
           (c .if1 .came),
@@ -48,7 +47,7 @@ returns : tie.Need-returns Inv-loop μ-loop
 returns c =
     let l = c .before .loop in
     let a = c .before .before .before .before .before .before .before .args in
-    l .inv .1 ∙ ap (tableBelow searchLimit (now (a .shifted)) (now (a .anchors)) (a .n) (a .t)) (omega arith)
+    l .inv .1 ∙ ap (tableBelow (a .limit) (now (a .shifted)) (now (a .anchors)) (a .n) (a .t)) (omega arith)
 
 pub candidates-spec : {M : Type 1} → statement M
 candidates-spec =

@@ -6,11 +6,11 @@ use Rattle.answers.proofs.notices.ParseWarnings.with.Tie as tie
 
 returns : tie.Need-returns
 unfolding withParseWarning
-returns c = pick-le _ _ 386 (c .before .args .self .len) (search needs)
+returns c = pick-le _ _ 1026 (c .before .args .self .len) (search needs)
 
 returns-2 : tie.Need-returns-2
 unfolding withParseWarning
-returns-2 c = pick-gt _ _ 386 (c .before .args .self .len) (search needs)
+returns-2 c = pick-gt _ _ 1026 (c .before .args .self .len) (search needs)
 
 pub with-spec : {M : Type 1} → statement M
 with-spec = tie.close (tie.spec returns (λ c. search needs) (λ c. search needs) (λ c. search needs) returns-2)
