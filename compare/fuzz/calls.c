@@ -1,5 +1,6 @@
 /* Calls the C interface with lengths and bytes that nobody meant, to see that it answers each as include/lumeviqo.h says.
-   calls lengths               each buffer of each function with 0 bytes, one too few, one too many, and 2^32; fits with 48
+   calls lengths               each buffer of each function with 0 bytes, one too few, one too many, and 2^32; fits with 48; then search
+                               limits at the ends of their range and outside, alone and with each buffer one too few
    calls random SECONDS SEED   calls made from SEED, the same calls for the same seed
    The library has no instrumentation, so each lent buffer stands in an arena of its own, once with its end at an inaccessible page
    and once with its start behind one; what a function may not write to is mapped read-only while it runs. */
@@ -20,11 +21,14 @@ enum { PAGE, FITS, SHIFTED, ANCHORS, BYTES, OUT, ANSWER, ROLES };
 enum { WHOLE = LUMEVIQO_PAGE_LENGTH, DATA = LUMEVIQO_SHIFTED_LENGTH, SECTOR = LUMEVIQO_SECTOR_LENGTH, SECTORS = LUMEVIQO_SECTOR_COUNT };
 enum { MEMORY_PAGE = 4096, ROOM = 3 * MEMORY_PAGE, CANARY = 0x5C };
 enum { STEPS = 256, FITS_WITHOUT_TIED = SECTORS * LUMEVIQO_FIT_TIED };
-enum { ANSWERS = LUMEVIQO_NO_SUCH_ROW + 1, NO_ANSWER = ANSWERS };
+enum { ANSWERS = LUMEVIQO_LIMIT_OUT_OF_RANGE + 1, NO_ANSWER = ANSWERS };
 
-/* Places in a page: how far a directory is searched for and where a row may start, then of the trailer, from its first byte, and of
-   page 0. */
-enum { LIMIT = 0x300, FIRST_ROW = 0x20 };
+/* How far a directory is searched for: usually, at least and at most. */
+enum { LIMIT = LUMEVIQO_SEARCH_LIMIT, LEAST_LIMIT = LUMEVIQO_LEAST_SEARCH_LIMIT, GREATEST_LIMIT = LUMEVIQO_GREATEST_SEARCH_LIMIT };
+
+/* Places in a page: where a row may start, how far its count stands before a prelude's slots at most, then of the trailer, from its first
+   byte, and of page 0. */
+enum { FIRST_ROW = 0x20, MOST_GAP = 6 };
 enum { AT_ROW_COUNT = 0, AT_TYPE = 2, AT_RESERVED = 3, AT_LSN = 4, AT_RESERVED_WORD = 8, AT_CRC = 12, TRAILER_LENGTH = WHOLE - DATA };
 enum { AT_FLAGS = 6, AT_BLOCK_LSN = 8, AT_MAJOR = 0x10, AT_MAGIC = 0x14, AT_A = 0x18, AT_B = 0x1A, AT_PAGE_HINT = 0x1C, BASE_FLAGS = 0x09 };
 #define MARKER "SAP SE, Copyright (c)2015 17.0.4."
@@ -44,12 +48,14 @@ enum { CRC32, TRAILER, INTEGRITY, SUPERBLOCK, CHECKED, SCAN, REPLACE, DECODE, SU
 
 #define PAGE_REFUSALS OF(LUMEVIQO_WRONG_PAGE_LENGTH)
 #define BUFFER_REFUSALS (PAGE_REFUSALS | OF(LUMEVIQO_WRONG_BUFFER_LENGTH))
+#define LIMIT_REFUSALS OF(LUMEVIQO_LIMIT_OUT_OF_RANGE)
 #define INTEGRITY_REFUSALS (OF(LUMEVIQO_BAD_CRC) | OF(LUMEVIQO_BAD_TRAILER))
-#define SUPPLIED_REFUSALS (BUFFER_REFUSALS | OF(LUMEVIQO_KEYSTREAM_UNVERIFIED) | OF(LUMEVIQO_LOW_CONFIDENCE_KEYSTREAM))
+#define SUPPLIED_REFUSALS                                                                                                               \
+    (BUFFER_REFUSALS | LIMIT_REFUSALS | OF(LUMEVIQO_KEYSTREAM_UNVERIFIED) | OF(LUMEVIQO_LOW_CONFIDENCE_KEYSTREAM))
 #define DECODING_REFUSALS (SUPPLIED_REFUSALS | INTEGRITY_REFUSALS | OF(LUMEVIQO_AMBIGUOUS_CALIBRATION))
 #define PARSE_REFUSALS                                                                                                                  \
-    (PAGE_REFUSALS | OF(LUMEVIQO_NO_SLOT_DIRECTORY) | OF(LUMEVIQO_UNKNOWN_PRELUDE) | OF(LUMEVIQO_SLOT_DIRECTORY_TRUNCATED)               \
-     | OF(LUMEVIQO_AMBIGUOUS_SLOT_DIRECTORY) | OF(LUMEVIQO_SLOT_OFFSET_IN_DIRECTORY))
+    (PAGE_REFUSALS | LIMIT_REFUSALS | OF(LUMEVIQO_NO_SLOT_DIRECTORY) | OF(LUMEVIQO_UNKNOWN_PRELUDE)                                     \
+     | OF(LUMEVIQO_SLOT_DIRECTORY_TRUNCATED) | OF(LUMEVIQO_AMBIGUOUS_SLOT_DIRECTORY) | OF(LUMEVIQO_SLOT_OFFSET_IN_DIRECTORY))
 
 static const Function functions[FUNCTIONS] = {
     {"crc32", 0, OF(PAGE), 0, 0},
@@ -93,6 +99,7 @@ static const uint8_t values_of[ANSWERS] = {
     [LUMEVIQO_BAD_REPLACEMENT] = 1,
     [LUMEVIQO_TOO_MANY_CANDIDATES] = 1,
     [LUMEVIQO_NO_SUCH_ROW] = 1,
+    [LUMEVIQO_LIMIT_OUT_OF_RANGE] = 1,
 };
 
 /* What is asked: the scalars, and what each buffer holds before the call. Of 2^32 bytes all are zero. */
@@ -100,7 +107,7 @@ typedef struct {
     int function;
     uint64_t number;
     uint8_t leniency, t, bv;
-    size_t sector, row;
+    size_t limit, sector, row;
     bool own_summary; /* fits and shifted are those of the page */
     size_t length[ROLES];
     uint8_t held[ROLES][ROOM];
@@ -122,8 +129,8 @@ static uint8_t *arenas[ROLES];
 
 static void tell_call(void) {
     const Function *f = &functions[call.function];
-    fprintf(stderr, "\ncall %" PRIu64 ": %s, number %" PRIu64 ", leniency %u, T %u, bv %u, sector %zu, row %zu\n", calls_made, f->name,
-            call.number, call.leniency, call.t, call.bv, call.sector, call.row);
+    fprintf(stderr, "\ncall %" PRIu64 ": %s, number %" PRIu64 ", leniency %u, T %u, limit %zu, bv %u, sector %zu, row %zu\n", calls_made,
+            f->name, call.number, call.leniency, call.t, call.limit, call.bv, call.sector, call.row);
     for (int role = 0; role < ROLES; role++) {
         if (!(f->lent & OF(role)))
             continue;
@@ -294,19 +301,19 @@ static size_t ask(uint8_t *const at[ROLES]) {
     case REPLACE:
         return lumeviqo_replace(c->number, page, n[PAGE], shifted, n[SHIFTED], fits, n[FITS], c->sector, at[BYTES], n[BYTES], answer, n[ANSWER]);
     case DECODE:
-        return lumeviqo_decode(c->number, page, n[PAGE], anchors, n[ANCHORS], c->leniency, c->t, out, n[OUT], answer, n[ANSWER]);
+        return lumeviqo_decode(c->number, page, n[PAGE], anchors, n[ANCHORS], c->leniency, c->t, c->limit, out, n[OUT], answer, n[ANSWER]);
     case SUMMARY:
-        return lumeviqo_decode_summary(c->number, page, n[PAGE], fits, n[FITS], shifted, n[SHIFTED], anchors, n[ANCHORS], c->leniency, c->t, out,
-                                       n[OUT], answer, n[ANSWER]);
+        return lumeviqo_decode_summary(c->number, page, n[PAGE], fits, n[FITS], shifted, n[SHIFTED], anchors, n[ANCHORS], c->leniency, c->t,
+                                       c->limit, out, n[OUT], answer, n[ANSWER]);
     case SUPPLIED:
-        return lumeviqo_decode_supplied(c->number, page, n[PAGE], c->bv, c->leniency, c->t, out, n[OUT], answer, n[ANSWER]);
+        return lumeviqo_decode_supplied(c->number, page, n[PAGE], c->bv, c->leniency, c->t, c->limit, out, n[OUT], answer, n[ANSWER]);
     case SUPPLIED_SUMMARY:
-        return lumeviqo_decode_supplied_summary(c->number, page, n[PAGE], fits, n[FITS], shifted, n[SHIFTED], c->bv, c->leniency, c->t, out,
-                                                n[OUT], answer, n[ANSWER]);
-    case PARSE: return lumeviqo_parse(c->number, page, n[PAGE], c->leniency, answer, n[ANSWER]);
-    case COUNT: return lumeviqo_row_count(c->number, page, n[PAGE], c->leniency, answer, n[ANSWER]);
-    case ROW: return lumeviqo_row(c->number, page, n[PAGE], c->leniency, c->row, answer, n[ANSWER]);
-    default: return lumeviqo_rows(c->number, page, n[PAGE], c->leniency, answer, n[ANSWER]);
+        return lumeviqo_decode_supplied_summary(c->number, page, n[PAGE], fits, n[FITS], shifted, n[SHIFTED], c->bv, c->leniency, c->t,
+                                                c->limit, out, n[OUT], answer, n[ANSWER]);
+    case PARSE: return lumeviqo_parse(c->number, page, n[PAGE], c->leniency, c->limit, answer, n[ANSWER]);
+    case COUNT: return lumeviqo_row_count(c->number, page, n[PAGE], c->leniency, c->limit, answer, n[ANSWER]);
+    case ROW: return lumeviqo_row(c->number, page, n[PAGE], c->leniency, c->limit, c->row, answer, n[ANSWER]);
+    default: return lumeviqo_rows(c->number, page, n[PAGE], c->leniency, c->limit, answer, n[ANSWER]);
     }
 }
 
@@ -340,7 +347,10 @@ static bool fits_lent(void) {
     return true;
 }
 
-/* The answer that lengths and lent fits alone decide, with its value; 0 where they decide nothing, -1 where nothing may be answered. */
+static bool takes_limit(int function) { return functions[function].refusals & LIMIT_REFUSALS; }
+
+/* The answer that lengths, lent fits and the limit alone decide, with its value; 0 where they decide nothing, -1 where nothing may be
+   answered. */
 static int decided(uint64_t *value) {
     const Function *f = &functions[call.function];
     const size_t *n = call.length;
@@ -355,6 +365,9 @@ static int decided(uint64_t *value) {
     *value = n[SHIFTED];
     if (f->lent & OF(SHIFTED) && n[SHIFTED] != DATA)
         return LUMEVIQO_WRONG_BUFFER_LENGTH;
+    *value = call.limit;
+    if (takes_limit(call.function) && (call.limit < LEAST_LIMIT || call.limit > GREATEST_LIMIT))
+        return LUMEVIQO_LIMIT_OUT_OF_RANGE;
     *value = call.sector;
     if (f->lent & OF(BYTES) && (call.sector >= SECTORS || n[BYTES] != sector_length(call.sector)))
         return LUMEVIQO_BAD_REPLACEMENT;
@@ -514,6 +527,7 @@ static void check_parse(const uint8_t *a) {
     uint64_t warnings = u16_at(a + LUMEVIQO_PARSE_WARNING_COUNT);
     must(a[LUMEVIQO_PARSE_FOUND] <= 1 && a[LUMEVIQO_PARSE_DECLARED] <= 1, "flags are 0 or 1");
     must(start <= end && end <= WHOLE && slots <= LUMEVIQO_MOST_SLOTS, "the directory is in the page");
+    must(a[LUMEVIQO_PARSE_DECLARED] == 1 ? start < call.limit + MOST_GAP : end <= call.limit, "it is found within the limit");
     must(zero_between(a, LUMEVIQO_PARSE_SLOTS + LUMEVIQO_SLOT_LENGTH * slots, LUMEVIQO_PARSE_WARNING_COUNT), "unused slots are zero");
     must(a[LUMEVIQO_PARSE_FOUND] == 1 || zero_between(a, LUMEVIQO_PARSE_START, LUMEVIQO_PARSE_WARNING_COUNT), "no directory has no fields");
     check_warnings(a + LUMEVIQO_PARSE_WARNINGS, warnings, LUMEVIQO_MOST_PARSE_WARNINGS, LUMEVIQO_WARNED_UNVERIFIED_DIRECTORY,
@@ -527,7 +541,7 @@ static void check_rows(const uint8_t *a) {
     uint8_t row[LUMEVIQO_ROW_LENGTH];
     must(rows <= LUMEVIQO_MOST_SLOTS, "there are no more rows than slots");
     for (size_t r = 0; r <= rows; r++) {
-        lumeviqo_row(call.number, call.held[PAGE], WHOLE, call.leniency, r, row, sizeof row);
+        lumeviqo_row(call.number, call.held[PAGE], WHOLE, call.leniency, call.limit, r, row, sizeof row);
         must(row[LUMEVIQO_ANSWER_NUMBER] == (r < rows ? LUMEVIQO_ACCEPTED : LUMEVIQO_NO_SUCH_ROW), "row_count counts the rows");
         if (r == rows)
             break;
@@ -542,12 +556,12 @@ static void check_rows(const uint8_t *a) {
 static void check_starts(const uint8_t *a) {
     size_t rows = u16_at(a + LUMEVIQO_ROWS_COUNT), used = LUMEVIQO_ROWS_STARTS + LUMEVIQO_SLOT_LENGTH * rows;
     uint8_t count[LUMEVIQO_ROW_COUNT_LENGTH], row[LUMEVIQO_ROW_LENGTH];
-    lumeviqo_row_count(call.number, call.held[PAGE], WHOLE, call.leniency, count, sizeof count);
+    lumeviqo_row_count(call.number, call.held[PAGE], WHOLE, call.leniency, call.limit, count, sizeof count);
     must(rows <= LUMEVIQO_MOST_SLOTS && rows == u16_at(count + LUMEVIQO_ROW_COUNT_ROWS), "there are as many rows as row_count says");
     must(zero_between(a, used, LUMEVIQO_ROWS_LENGTH), "unused places for rows are zero");
     for (size_t r = 0; r < rows; r++) {
         const uint8_t *at = a + LUMEVIQO_ROWS_STARTS + LUMEVIQO_SLOT_LENGTH * r;
-        lumeviqo_row(call.number, call.held[PAGE], WHOLE, call.leniency, r, row, sizeof row);
+        lumeviqo_row(call.number, call.held[PAGE], WHOLE, call.leniency, call.limit, r, row, sizeof row);
         size_t end = r + 1 < rows ? u16_at(at + LUMEVIQO_SLOT_LENGTH) : DATA;
         must(u16_at(at) == u16_at(row + LUMEVIQO_ROW_START) && end == u16_at(row + LUMEVIQO_ROW_END), "each row is that of lumeviqo_row");
     }
@@ -618,8 +632,8 @@ static void check(const Outcome *o) {
     check_answer_part(a);
     answers[call.function][given]++;
     must(number == LUMEVIQO_ACCEPTED || (given == number && u64_at(a + LUMEVIQO_ANSWER_VALUES) == value),
-         "a wrong length or sector is answered with it");
-    must(number != LUMEVIQO_ACCEPTED || !(BUFFER_REFUSALS & OF(given)), "right lengths are taken");
+         "a wrong length, limit or sector is answered with it");
+    must(number != LUMEVIQO_ACCEPTED || !((BUFFER_REFUSALS | LIMIT_REFUSALS) & OF(given)), "right lengths and limits are taken");
     if (given == LUMEVIQO_ACCEPTED)
         check_accepted(o);
     else
@@ -695,11 +709,16 @@ static void summarize(void) {
     memcpy(subject.shifted, fresh.held[SHIFTED], DATA);
 }
 
-/* A count, a gap to the slots, and slots that fall, now and then by nothing, or the last of them into the directory. */
+/* A count, a gap to the slots, and slots that fall, now and then by nothing, or the last of them into the directory. Of slots that no count
+   declares there may be as many as a page can have. */
 static void write_directory(size_t count) {
-    size_t at = below(one_in(8) ? LIMIT + 2 : 0x200), offset = DATA - below(8), slots = count == 0 ? 4 + below(20) : count;
-    put_u16(subject.plain + at, count);
-    at += ONE_OF(4, 6);
+    bool most = count == 0 && one_in(4);
+    size_t at = most ? 0 : below(one_in(4) ? GREATEST_LIMIT + 2 : one_in(8) ? LIMIT + 2 : 0x200), offset = DATA - below(8);
+    size_t slots = most ? LUMEVIQO_MOST_SLOTS : count == 0 ? 4 + below(20) : count;
+    if (!most) {
+        put_u16(subject.plain + at, count);
+        at += ONE_OF(4, MOST_GAP);
+    }
     for (size_t k = 0; k < slots; k++, at += LUMEVIQO_SLOT_LENGTH) {
         bool deleted = k > 0 && one_in(8);
         size_t fall = one_in(200) ? 0 : 1 + below((DATA - LIMIT) / (slots + 1));
@@ -732,7 +751,7 @@ static void fill_sector(size_t s) {
 
 static void damage(uint8_t *bytes, size_t length) {
     for (size_t times = 1 + below(6); times > 0; times--) {
-        size_t at = one_in(3) ? below(length < LIMIT ? length : LIMIT) : below(length), n = ONE_OF(1, 1, 2, 4, 16, 200);
+        size_t at = one_in(3) ? below(length < GREATEST_LIMIT ? length : GREATEST_LIMIT) : below(length), n = ONE_OF(1, 1, 2, 4, 16, 200);
         noise(bytes + at, n < length - at ? n : length - at);
     }
 }
@@ -793,7 +812,8 @@ static size_t right_length(int role) {
 /* The call of a function with the subject's own page and summary, and all lengths right. */
 static void right_call(int function) {
     bool plain = function >= PARSE;
-    call = (Call){.function = function, .number = subject.number, .t = LUMEVIQO_MIN_TRAILER_COUNT, .bv = subject.bv, .own_summary = true};
+    call = (Call){.function = function, .number = subject.number, .t = LUMEVIQO_MIN_TRAILER_COUNT, .limit = LIMIT, .bv = subject.bv,
+                  .own_summary = true};
     for (int role = 0; role < ROLES; role++)
         call.length[role] = right_length(role);
     memcpy(call.held[PAGE], plain ? subject.plain : subject.stored, WHOLE);
@@ -859,6 +879,49 @@ static void try_lengths(void) {
 
 #define ABOUT(n) (n) - 1, (n), (n) + 1
 
+/* Limits that are refused: two are the usual one if only their low bytes are read. */
+#define LONGER(bits) (((size_t)1 << (bits)) + LIMIT)
+#define OUTSIDE 0, LEAST_LIMIT - 1, GREATEST_LIMIT + 1, 65535, LONGER(16), (size_t)1 << 32, LONGER(32), SIZE_MAX
+
+/* Alone, and with each buffer in turn a byte short: a wrong length comes first. */
+static void try_limit(int function, size_t limit) {
+    right_call(function);
+    call.limit = limit;
+    try_call();
+    for (int role = 0; role < ROLES; role++) {
+        if (!(functions[function].lent & OF(role)))
+            continue;
+        call.length[role]--;
+        try_call();
+        call.length[role]++;
+    }
+}
+
+static void try_limits(void) {
+    static const size_t limits[] = {LEAST_LIMIT, LIMIT, GREATEST_LIMIT, OUTSIDE};
+    enum { LIMITS = sizeof limits / sizeof limits[0] };
+    size_t taking = 0;
+    make_good_subject();
+    for (int function = 0; function < FUNCTIONS; function++) {
+        if (!takes_limit(function))
+            continue;
+        taking++;
+        for (size_t k = 0; k < LIMITS; k++)
+            try_limit(function, limits[k]);
+    }
+    printf("limits: %zu functions, each with %d limits, alone and with each buffer one short\n", taking, LIMITS);
+}
+
+static size_t some_limit(void) {
+    switch (below(8)) {
+    case 0: return LEAST_LIMIT + below(GREATEST_LIMIT - LEAST_LIMIT + 1);
+    case 1: return ONE_OF(LEAST_LIMIT, LEAST_LIMIT + 1, LEAST_LIMIT + 2, ABOUT(LIMIT), 1024, GREATEST_LIMIT - 1, GREATEST_LIMIT);
+    case 2: return GREATEST_LIMIT;
+    case 3: return one_in(3) ? next() : ONE_OF(OUTSIDE);
+    default: return LIMIT;
+    }
+}
+
 static size_t strange_length(size_t right) {
     switch (below(6)) {
     case 0: return 0;
@@ -890,6 +953,7 @@ static void random_call(void) {
     unsigned lent = functions[call.function].lent;
     call.leniency = (uint8_t)(one_in(4) ? next() : ONE_OF(LUMEVIQO_STRICT, LUMEVIQO_STRICT, K, D, I, K | I, K | D | I));
     call.t = (uint8_t)(one_in(2) ? LUMEVIQO_MIN_TRAILER_COUNT : next());
+    call.limit = some_limit();
     call.bv = (uint8_t)(one_in(3) ? next() : subject.bv);
     call.sector = one_in(8) ? ONE_OF(SECTORS, 255, (size_t)1 << 32, SIZE_MAX) : below(SECTORS);
     call.row = one_in(8) ? ONE_OF(LUMEVIQO_MOST_SLOTS, 65536, (size_t)1 << 32, SIZE_MAX) : below(one_in(2) ? 4 : 70);
@@ -959,10 +1023,12 @@ int main(int argc, char **argv) {
     __sanitizer_set_death_callback(tell_fault);
     for (int role = 0; role < ROLES; role++)
         arenas[role] = fenced(ROOM);
-    if (random)
+    if (random) {
         try_random(strtod(argv[2], NULL), strtoull(argv[3], NULL, 10));
-    else
+    } else {
         try_lengths();
+        try_limits();
+    }
     tell_counts();
     return EXIT_SUCCESS;
 }

@@ -13,9 +13,11 @@ import sys
 import time
 import zlib
 
-PAGE, DATA, LONGEST = 4096, 4080, 8724
+PAGE, DATA, HEAD = 4096, 4080, 13
+SHORTEST, LONGEST = 2 * (HEAD + PAGE), 2 * (HEAD + PAGE + 255)
 INTEGRITY = 4
-FRAME = re.compile(rb"[0-9a-fA-F]{8214,8724}\Z")
+LIMIT, LEAST_LIMIT, GREATEST_LIMIT = 768, 8, 2048
+FRAME = re.compile(rb"[0-9a-fA-F]{%d,%d}\Z" % (SHORTEST, LONGEST))
 FIT = rb"[0-9a-f]{2}0[0-2][0-9a-f]{2}0[0-2][0-9a-f]{2}0[01]0[01][0-9a-f]{2}"
 ACCEPTED = re.compile(rb"00[0-9a-f]{16}0[1-6]0[1-5][0-9a-f]{2}(" + FIT + rb"){8}0[0-9a]\Z")
 UNALLOCATED = b"060100" + b"0000000000010000" * 8 + b"00"
@@ -35,9 +37,13 @@ def must(holds, what, given=b""):
 
 def frame_of(line):
     """The frame's bytes, or None where the line is no frame."""
-    if not FRAME.match(line) or len(line) != 2 * (11 + PAGE + int(line[20:22], 16)):
+    if not FRAME.match(line) or len(line) != SHORTEST + 2 * int(line[2 * HEAD - 2:2 * HEAD], 16):
         return None
     return bytes.fromhex(line.decode())
+
+
+def limit_of(frame):
+    return int.from_bytes(frame[10:12], "big")
 
 
 def refused_by_integrity(frame):
@@ -59,7 +65,9 @@ def check_answer(line, answer, tally):
         return
     must(answer[2:18] == frame[:8].hex().encode(), "the answer has the frame's page number", line)
     integrity = refused_by_integrity(frame)
-    if not any(frame[-PAGE:]):
+    if not LEAST_LIMIT <= limit_of(frame) <= GREATEST_LIMIT:
+        must(answer[:2] + answer[18:] == b"14", "a limit out of range is refused, before all else", line)
+    elif not any(frame[-PAGE:]):
         must(answer[:2] + answer[18:] == b"00" + UNALLOCATED, "a page of zeros is unallocated", line)
     elif integrity:
         must(len(answer) == 18 and int(answer[:2], 16) == integrity, "bad CRC and trailer are refused", line)
@@ -97,11 +105,11 @@ def sector_of(rng, n):
 
 
 def data_of(rng, number, rows):
-    """Sectors hidden by steps and a bv, the first with a directory of so many rows."""
-    bv, data = rng.randrange(256), bytearray()
+    """Sectors hidden by steps and a bv, one of those that a limit can come to with a directory of so many rows."""
+    bv, data, has_rows = rng.randrange(256), bytearray(), rng.choice((0, 0, 0, 1, 2, 3))
     for s in range(8):
         plain, step = sector_of(rng, min(512, DATA - 512 * s)), rng.randrange(256)
-        if s == 0 and rows:
+        if s == has_rows and rows:
             plain[0x40:0x44 + 2 * rows] = bytes([rows, 0, 0, 0]) + b"".join((0xF00 - 20 * k).to_bytes(2, "little") for k in range(rows))
         shift = number + s - 4 * (number % 16 // 2) + bv
         data += bytes((b + shift + i * step) % 256 for i, b in enumerate(plain))
@@ -120,10 +128,17 @@ def stored_page(rng, number):
     return bytes(page) if kind == 3 else sealed(bytes(page))
 
 
+def some_limit(rng):
+    """Most often the usual one, else one at or near an end of the range, any in it, or any that two bytes can say."""
+    near = rng.choice((0, 3, 7, 8, 9, 10, 767, 769, 1024, 2047, 2048, 2049, 65535))
+    return rng.choice((LIMIT, LIMIT, LIMIT, near, rng.randrange(LEAST_LIMIT, GREATEST_LIMIT + 1), rng.randrange(65536)))
+
+
 def frame_line(rng):
     number = rng.choice((0, 5, 2 ** 64 - 1, rng.randrange(600), rng.randrange(2 ** 64)))
     anchors = rng.randbytes(rng.choice((0, 0, 1, 3, 255)))
-    head = number.to_bytes(8, "big") + bytes([rng.choice((0, 1, 4, 5, 7, rng.randrange(256))), rng.choice((4, rng.randrange(256))), len(anchors)])
+    options = bytes([rng.choice((0, 1, 4, 5, 7, rng.randrange(256))), rng.choice((4, rng.randrange(256)))])
+    head = number.to_bytes(8, "big") + options + some_limit(rng).to_bytes(2, "big") + bytes([len(anchors)])
     line = (head + anchors + stored_page(rng, number)).hex().encode()
     return line.upper() if rng.random() < 0.1 else line
 
@@ -152,11 +167,11 @@ def long_line(rng):
 def some_line(rng):
     kind = rng.randrange(12)
     if kind == 0:
-        return rng.choice((b"", b"\0", b"\r", b"11", b"0" * 8213, b"0" * 8215, b"\0" * 8214))
+        return rng.choice((b"", b"\0", b"\r", b"11", b"0" * (SHORTEST - 1), b"0" * (SHORTEST + 1), b"\0" * SHORTEST))
     if kind == 1:
         return rng.randbytes(rng.randrange(1, 20000))
     if kind == 2:
-        return bytes(rng.choice(b"0123456789abcdefABCDEF") for _ in range(rng.choice((8214, 8216, 8724, rng.randrange(9000)))))
+        return bytes(rng.choice(b"0123456789abcdefABCDEF") for _ in range(rng.choice((SHORTEST, SHORTEST + 2, LONGEST, rng.randrange(9000)))))
     return spoiled(rng, frame_line(rng)) if kind < 7 else frame_line(rng)
 
 
@@ -214,7 +229,7 @@ class Runs:
         with self.start() as process:
             at = 0
             while at < len(data):
-                n = self.rng.choice((1, 7, 8214, 65536, self.rng.randrange(1, 200_000)))
+                n = self.rng.choice((1, 7, SHORTEST, 65536, self.rng.randrange(1, 200_000)))
                 process.stdin.write(data[at:at + n])
                 process.stdin.flush()
                 at += n

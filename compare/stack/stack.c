@@ -14,15 +14,18 @@
 
 enum { WHOLE = LUMEVIQO_PAGE_LENGTH, DATA = LUMEVIQO_SHIFTED_LENGTH, SECTOR = LUMEVIQO_SECTOR_LENGTH, SECTORS = LUMEVIQO_SECTOR_COUNT };
 
-/* Places in a page, how far a directory is searched for, and where a row may start. */
-enum { AT_ROW_COUNT = DATA, AT_RESERVED = DATA + 3, AT_CRC = DATA + 12, AT_MAGIC = 0x14, LIMIT = 0x300, FIRST_ROW = 0x20 };
+/* How far a directory is searched for, usually and at most. */
+enum { LIMIT = LUMEVIQO_SEARCH_LIMIT, GREATEST_LIMIT = LUMEVIQO_GREATEST_SEARCH_LIMIT };
+
+/* Places in a page, and where a row may start. */
+enum { AT_ROW_COUNT = DATA, AT_RESERVED = DATA + 3, AT_CRC = DATA + 12, AT_MAGIC = 0x14, FIRST_ROW = 0x20 };
 #define MARKER "SAP SE, Copyright (c)2015 17.0.4."
 #define MAGIC 0xDA7ABA5E
 
 /* What a function takes: buffers, each passed as a pointer and a length, and numbers. */
 enum { END, PAGE, FITS, SHIFTED, ANCHORS, BYTES, OUT, ANSWER, BUFFERS };
-enum { NUMBER = BUFFERS, SECTOR_NUMBER, BV, LENIENCY, T, ROW_NUMBER, KINDS };
-enum { MOST_TAKEN = 9, MOST_ARGUMENTS = 15, IN_REGISTERS = 6 };
+enum { NUMBER = BUFFERS, SECTOR_NUMBER, BV, LENIENCY, T, SEARCH_LIMIT, ROW_NUMBER, KINDS };
+enum { MOST_TAKEN = 10, MOST_ARGUMENTS = 16, IN_REGISTERS = 6 };
 
 typedef void (*Entry)(void);
 
@@ -46,16 +49,17 @@ static const Function functions[FUNCTIONS] = {
     {"superblock_checked", 0, LUMEVIQO_SUPERBLOCK_LENGTH, (Entry)lumeviqo_superblock_checked, {PAGE, ANSWER}},
     {"scan", 0, LUMEVIQO_SCAN_LENGTH, (Entry)lumeviqo_scan, {NUMBER, PAGE, SHIFTED, ANSWER}},
     {"replace", 0, LUMEVIQO_REPLACEMENT_LENGTH, (Entry)lumeviqo_replace, {NUMBER, PAGE, SHIFTED, FITS, SECTOR_NUMBER, BYTES, ANSWER}},
-    {"decode", 0, LUMEVIQO_DECODING_LENGTH, (Entry)lumeviqo_decode, {NUMBER, PAGE, ANCHORS, LENIENCY, T, OUT, ANSWER}},
+    {"decode", 0, LUMEVIQO_DECODING_LENGTH, (Entry)lumeviqo_decode, {NUMBER, PAGE, ANCHORS, LENIENCY, T, SEARCH_LIMIT, OUT, ANSWER}},
     {"decode_summary", 0, LUMEVIQO_DECODING_LENGTH, (Entry)lumeviqo_decode_summary,
-     {NUMBER, PAGE, FITS, SHIFTED, ANCHORS, LENIENCY, T, OUT, ANSWER}},
-    {"decode_supplied", 0, LUMEVIQO_DECODING_LENGTH, (Entry)lumeviqo_decode_supplied, {NUMBER, PAGE, BV, LENIENCY, T, OUT, ANSWER}},
+     {NUMBER, PAGE, FITS, SHIFTED, ANCHORS, LENIENCY, T, SEARCH_LIMIT, OUT, ANSWER}},
+    {"decode_supplied", 0, LUMEVIQO_DECODING_LENGTH, (Entry)lumeviqo_decode_supplied,
+     {NUMBER, PAGE, BV, LENIENCY, T, SEARCH_LIMIT, OUT, ANSWER}},
     {"decode_supplied_summary", 0, LUMEVIQO_DECODING_LENGTH, (Entry)lumeviqo_decode_supplied_summary,
-     {NUMBER, PAGE, FITS, SHIFTED, BV, LENIENCY, T, OUT, ANSWER}},
-    {"parse", 1500, LUMEVIQO_PARSE_LENGTH, (Entry)lumeviqo_parse, {NUMBER, PAGE, LENIENCY, ANSWER}},
-    {"row_count", 0, LUMEVIQO_ROW_COUNT_LENGTH, (Entry)lumeviqo_row_count, {NUMBER, PAGE, LENIENCY, ANSWER}},
-    {"row", 0, LUMEVIQO_ROW_LENGTH, (Entry)lumeviqo_row, {NUMBER, PAGE, LENIENCY, ROW_NUMBER, ANSWER}},
-    {"rows", 1000, LUMEVIQO_ROWS_LENGTH, (Entry)lumeviqo_rows, {NUMBER, PAGE, LENIENCY, ANSWER}},
+     {NUMBER, PAGE, FITS, SHIFTED, BV, LENIENCY, T, SEARCH_LIMIT, OUT, ANSWER}},
+    {"parse", 1500, LUMEVIQO_PARSE_LENGTH, (Entry)lumeviqo_parse, {NUMBER, PAGE, LENIENCY, SEARCH_LIMIT, ANSWER}},
+    {"row_count", 0, LUMEVIQO_ROW_COUNT_LENGTH, (Entry)lumeviqo_row_count, {NUMBER, PAGE, LENIENCY, SEARCH_LIMIT, ANSWER}},
+    {"row", 0, LUMEVIQO_ROW_LENGTH, (Entry)lumeviqo_row, {NUMBER, PAGE, LENIENCY, SEARCH_LIMIT, ROW_NUMBER, ANSWER}},
+    {"rows", 1000, LUMEVIQO_ROWS_LENGTH, (Entry)lumeviqo_rows, {NUMBER, PAGE, LENIENCY, SEARCH_LIMIT, ANSWER}},
 };
 
 static void nothing(void) {}
@@ -277,6 +281,7 @@ typedef struct {
     uint8_t count;
     Run runs[MOST_RUNS];
     bool breaks_off; /* no slot stands behind the first run */
+    uint16_t limit;  /* that it is asked at, or 0 for the usual one */
 
     uint8_t strict, warnings[LUMEVIQO_MOST_PARSE_WARNINGS];
     bool declared;
@@ -322,6 +327,13 @@ static const Directory directories[] = {
      .warnings = {TRUNCATED, UNVERIFIED, INSIDE}, .slots = 150, .rows = 143},
     {"two preludes, offsets inside", 4, {{0x44, 4, 4, 0xF00, 0x100}, {0x106, 6, 5, 0x508, 0x100}},
      .strict = LUMEVIQO_AMBIGUOUS_SLOT_DIRECTORY, .warnings = {AMBIGUOUS, UNVERIFIED, INSIDE}, .slots = 5, .rows = 4},
+    {"all zero, limit 2,048", 0, {{0}}, .limit = GREATEST_LIMIT},
+    {"255 rows past 0x300, limit 2,048", 255, {{0x700, 4, 255, 0xFE0, 5}}, .limit = GREATEST_LIMIT, .declared = true, .slots = 255,
+     .rows = 255},
+    {"1,024 falling slots, limit 2,048", 0, {{0, 0, 1024, 0xFE0, 1}}, .limit = GREATEST_LIMIT, .strict = LUMEVIQO_NO_SLOT_DIRECTORY,
+     .warnings = {UNVERIFIED}, .slots = 1024, .rows = 1024},
+    {"1,024 falling slots, offsets inside, limit 2,048", 0, {{0, 0, 1024, 0xFE0, 3}}, .limit = GREATEST_LIMIT,
+     .strict = LUMEVIQO_NO_SLOT_DIRECTORY, .warnings = {UNVERIFIED, INSIDE}, .slots = 1024, .rows = 673},
 };
 enum { DIRECTORIES = sizeof directories / sizeof directories[0] };
 
@@ -340,6 +352,7 @@ static void make_directory(const Directory *d) {
         put_run(page, d->count, d->runs[k]);
     if (d->breaks_off)
         put_u16(page + d->runs[0].start + LUMEVIQO_SLOT_LENGTH * d->runs[0].slots, 0xFFFF);
+    call.number[SEARCH_LIMIT] = d->limit == 0 ? LIMIT : d->limit;
 }
 
 static size_t warning_count(const Directory *d) {
@@ -398,6 +411,16 @@ static void try_readings(const Directory *d) {
     try_accepted(d, LUMEVIQO_LENIENT_DIRECTORY);
 }
 
+/* A limit that is refused, whatever the page. */
+static void try_outside(int first, int end) {
+    uint64_t kept = call.number[SEARCH_LIMIT];
+    name_pages("limit out of range", "");
+    call.number[SEARCH_LIMIT] = GREATEST_LIMIT + 1;
+    for (int function = first; function < end; function++)
+        expect(function, LUMEVIQO_LIMIT_OUT_OF_RANGE);
+    call.number[SEARCH_LIMIT] = kept;
+}
+
 /* Any answer is right here. */
 static void try_any(const char *kind, uint8_t leniency) {
     name_pages(kind, "");
@@ -417,7 +440,7 @@ static void make_random_directory(void) {
     memset(page, 0, WHOLE);
     page[AT_ROW_COUNT] = (uint8_t)count;
     for (size_t times = 1 + below(MOST_RUNS); times > 0; times--) {
-        size_t slots = count == 0 ? 4 + below(20) : count, start = 6 + below(LIMIT), first = DATA - 1 - below(8);
+        size_t slots = count == 0 ? 4 + below(20) : count, start = 6 + below(GREATEST_LIMIT), first = DATA - 1 - below(8);
         size_t gap = 4 + 2 * below(2), fall = 1 + below((first - FIRST_ROW) / slots);
         put_run(page, (uint8_t)count, (Run){(uint16_t)start, (uint16_t)gap, (uint16_t)slots, (uint16_t)first, (uint16_t)fall});
         for (size_t changes = below(4); changes > 0; changes--)
@@ -441,6 +464,7 @@ static void try_directories(void) {
     call.number[LENIENCY] = LUMEVIQO_LENIENT_DIRECTORY;
     for (const Directory *d = directories; d < end; d++) {
         make_directory(d);
+        try_outside(PARSE, FUNCTIONS);
         for (int function = PARSE; function < FUNCTIONS; function++)
             try_short(function);
     }
@@ -451,6 +475,7 @@ static void try_random_directories(void) {
     for (size_t k = 0; k < TIMES; k++) {
         uint8_t leniency = k % 2 == 0 ? LUMEVIQO_STRICT : LUMEVIQO_LENIENT_DIRECTORY;
         call.number[NUMBER] = next();
+        call.number[SEARCH_LIMIT] = k % 4 < 2 ? LIMIT : LUMEVIQO_LEAST_SEARCH_LIMIT + below(GREATEST_LIMIT - LUMEVIQO_LEAST_SEARCH_LIMIT + 1);
         noise(call.held[PAGE], WHOLE);
         try_any("random bytes", leniency);
         make_random_directory();
@@ -588,6 +613,7 @@ static void try_stored(const Stored *kind) {
     try_summary(kind);
     try_superblocks(kind->pages);
     try_decodings(kind);
+    try_outside(DECODE, PARSE);
     for (int function = TRAILER; function < PARSE; function++)
         try_short(function);
 }
@@ -655,6 +681,7 @@ int main(void) {
     mix_paints();
     must(depth_of(&empty_call) == RETURN_ADDRESS, &empty_call, "it writes its return address alone");
     call.number[T] = LUMEVIQO_MIN_TRAILER_COUNT;
+    call.number[SEARCH_LIMIT] = LIMIT;
     try_version();
     for (size_t kind = 0; kind < STORED; kind++)
         for (size_t k = 0; k < TIMES; k++)

@@ -4,6 +4,7 @@ use lumeviqo::sys;
 
 use crate::lent::Buffer::{Read, Written};
 use crate::lent::{BEFORE, Buffer, Fault, GUARD, Lent, Part, lend};
+use crate::options::Options;
 use crate::summary::Summary;
 
 pub type Answer = Result<Vec<u8>, Fault>;
@@ -66,50 +67,60 @@ pub fn replace(number: u64, stored: &mut [u8], summary: &mut Summary, sector: us
     })
 }
 
-pub fn decode(number: u64, stored: &[u8], anchors: &[u8], bits: u8, out: &mut [u8]) -> Answer {
-    let t = least_count(number, stored);
+pub fn decode(number: u64, stored: &[u8], anchors: &[u8], options: Options, out: &mut [u8]) -> Answer {
+    let (t, Options { bits, limit }) = (least_count(number, stored), options);
     let buffers = [Read("stored", stored), Read("anchors", anchors), Written("out", out)];
     asked(h::DECODING_LENGTH, buffers, |[s, k, o], a, n| unsafe {
-        sys::lumeviqo_decode(number, s.at, s.length, k.at, k.length, bits, t, o.at, o.length, a, n)
+        sys::lumeviqo_decode(number, s.at, s.length, k.at, k.length, bits, t, limit, o.at, o.length, a, n)
     })
 }
 
-pub fn decode_summary(number: u64, stored: &[u8], summary: &Summary, anchors: &[u8], bits: u8, out: &mut [u8]) -> Answer {
-    let (t, fits) = (least_count(number, stored), summary.lent_fits());
+pub fn decode_summary(number: u64, stored: &[u8], summary: &Summary, anchors: &[u8], options: Options, out: &mut [u8]) -> Answer {
+    let (t, fits, Options { bits, limit }) = (least_count(number, stored), summary.lent_fits(), options);
     let buffers =
         [Read("stored", stored), Read("fits", &fits), Read("shifted", &summary.shifted), Read("anchors", anchors), Written("out", out)];
     asked(h::DECODING_LENGTH, buffers, |[s, f, m, k, o], a, n| unsafe {
-        sys::lumeviqo_decode_summary(number, s.at, s.length, f.at, f.length, m.at, m.length, k.at, k.length, bits, t, o.at, o.length, a, n)
+        sys::lumeviqo_decode_summary(
+            number, s.at, s.length, f.at, f.length, m.at, m.length, k.at, k.length, bits, t, limit, o.at, o.length, a, n,
+        )
     })
 }
 
-pub fn decode_supplied(number: u64, stored: &[u8], bv: u8, bits: u8, out: &mut [u8]) -> Answer {
-    let t = least_count(number, stored);
+pub fn decode_supplied(number: u64, stored: &[u8], bv: u8, options: Options, out: &mut [u8]) -> Answer {
+    let (t, Options { bits, limit }) = (least_count(number, stored), options);
     asked(h::DECODING_LENGTH, [Read("stored", stored), Written("out", out)], |[s, o], a, n| unsafe {
-        sys::lumeviqo_decode_supplied(number, s.at, s.length, bv, bits, t, o.at, o.length, a, n)
+        sys::lumeviqo_decode_supplied(number, s.at, s.length, bv, bits, t, limit, o.at, o.length, a, n)
     })
 }
 
-pub fn decode_supplied_summary(number: u64, stored: &[u8], summary: &Summary, bv: u8, bits: u8, out: &mut [u8]) -> Answer {
-    let (t, fits) = (least_count(number, stored), summary.lent_fits());
+pub fn decode_supplied_summary(number: u64, stored: &[u8], summary: &Summary, bv: u8, options: Options, out: &mut [u8]) -> Answer {
+    let (t, fits, Options { bits, limit }) = (least_count(number, stored), summary.lent_fits(), options);
     let buffers = [Read("stored", stored), Read("fits", &fits), Read("shifted", &summary.shifted), Written("out", out)];
     asked(h::DECODING_LENGTH, buffers, |[s, f, m, o], a, n| unsafe {
-        sys::lumeviqo_decode_supplied_summary(number, s.at, s.length, f.at, f.length, m.at, m.length, bv, bits, t, o.at, o.length, a, n)
+        sys::lumeviqo_decode_supplied_summary(
+            number, s.at, s.length, f.at, f.length, m.at, m.length, bv, bits, t, limit, o.at, o.length, a, n,
+        )
     })
 }
 
-pub fn parse(number: u64, plain: &[u8], bits: u8) -> Answer {
-    asked(h::PARSE_LENGTH, [Read("plain", plain)], |[p], a, n| unsafe { sys::lumeviqo_parse(number, p.at, p.length, bits, a, n) })
+pub fn parse(number: u64, plain: &[u8], o: Options) -> Answer {
+    asked(h::PARSE_LENGTH, [Read("plain", plain)], |[p], a, n| unsafe {
+        sys::lumeviqo_parse(number, p.at, p.length, o.bits, o.limit, a, n)
+    })
 }
 
-pub fn row_count(number: u64, plain: &[u8], bits: u8) -> Answer {
-    asked(h::ROW_COUNT_LENGTH, [Read("plain", plain)], |[p], a, n| unsafe { sys::lumeviqo_row_count(number, p.at, p.length, bits, a, n) })
+pub fn row_count(number: u64, plain: &[u8], o: Options) -> Answer {
+    asked(h::ROW_COUNT_LENGTH, [Read("plain", plain)], |[p], a, n| unsafe {
+        sys::lumeviqo_row_count(number, p.at, p.length, o.bits, o.limit, a, n)
+    })
 }
 
-pub fn row(number: u64, plain: &[u8], bits: u8, row: usize) -> Answer {
-    asked(h::ROW_LENGTH, [Read("plain", plain)], |[p], a, n| unsafe { sys::lumeviqo_row(number, p.at, p.length, bits, row, a, n) })
+pub fn row(number: u64, plain: &[u8], o: Options, row: usize) -> Answer {
+    asked(h::ROW_LENGTH, [Read("plain", plain)], |[p], a, n| unsafe {
+        sys::lumeviqo_row(number, p.at, p.length, o.bits, o.limit, row, a, n)
+    })
 }
 
-pub fn rows(number: u64, plain: &[u8], bits: u8) -> Answer {
-    asked(h::ROWS_LENGTH, [Read("plain", plain)], |[p], a, n| unsafe { sys::lumeviqo_rows(number, p.at, p.length, bits, a, n) })
+pub fn rows(number: u64, plain: &[u8], o: Options) -> Answer {
+    asked(h::ROWS_LENGTH, [Read("plain", plain)], |[p], a, n| unsafe { sys::lumeviqo_rows(number, p.at, p.length, o.bits, o.limit, a, n) })
 }

@@ -1,9 +1,11 @@
 //! The functions of bindings/rust, asked as Rust asks them. The answer is plain data.
-use lumeviqo::{Decoding, Leniency, Options};
+use lumeviqo::{Decoding, Leniency};
 use oracle::plain::{Decoded, Fit, Parsed, Refusal, Row, Superblock, Trailer};
 
 use crate::lent::Buffer::{Read, Written};
 use crate::lent::{Fault, lend};
+use crate::limits::USUAL;
+use crate::options::Options;
 use crate::summary::Summary;
 use crate::told;
 
@@ -16,8 +18,12 @@ fn leniency(bits: u8) -> Leniency {
     named.into_iter().filter(|(bit, _)| bits & bit != 0).fold(nameless, |all, (_, one)| all | one)
 }
 
-fn options(bits: u8) -> Options {
-    if bits == 0 { Options::default() } else { Options { leniency: leniency(bits), ..Options::default() } }
+/// What is asked for as usual comes from the binding's default.
+fn typed(asked: Options) -> lumeviqo::Options {
+    let usual = lumeviqo::Options::default();
+    let leniency = if asked.bits == 0 { usual.leniency } else { leniency(asked.bits) };
+    let search_limit = if asked.limit == USUAL { usual.search_limit } else { asked.limit };
+    lumeviqo::Options { leniency, search_limit, ..usual }
 }
 
 pub fn crc32(bytes: &[u8]) -> Result<u32, Fault> {
@@ -57,49 +63,49 @@ fn decoded(answer: Result<Decoding, lumeviqo::Refusal>, out: &[u8]) -> Result<De
     answer.map(|d| told::decoded(d, out)).map_err(told::refusal)
 }
 
-pub fn decode(number: u64, stored: &[u8], anchors: &[u8], bits: u8, out: &mut [u8]) -> Answer<Decoded> {
+pub fn decode(number: u64, stored: &[u8], anchors: &[u8], options: Options, out: &mut [u8]) -> Answer<Decoded> {
     lend([Read("stored", stored), Read("anchors", anchors), Written("out", out)], |[s, k, mut o]| {
-        decoded(lumeviqo::decode(number, s.bytes(), k.bytes(), options(bits), o.bytes_mut()), o.bytes())
+        decoded(lumeviqo::decode(number, s.bytes(), k.bytes(), typed(options), o.bytes_mut()), o.bytes())
     })
 }
 
-pub fn decode_summary(number: u64, stored: &[u8], summary: &Summary, anchors: &[u8], bits: u8, out: &mut [u8]) -> Answer<Decoded> {
+pub fn decode_summary(number: u64, stored: &[u8], summary: &Summary, anchors: &[u8], options: Options, out: &mut [u8]) -> Answer<Decoded> {
     let fits = summary.typed_fits();
     let buffers = [Read("stored", stored), Read("shifted", &summary.shifted), Read("anchors", anchors), Written("out", out)];
     lend(buffers, |[s, m, k, mut o]| {
-        let answer = lumeviqo::decode_summary(number, s.bytes(), &fits, m.bytes(), k.bytes(), options(bits), o.bytes_mut());
+        let answer = lumeviqo::decode_summary(number, s.bytes(), &fits, m.bytes(), k.bytes(), typed(options), o.bytes_mut());
         decoded(answer, o.bytes())
     })
 }
 
-pub fn decode_supplied(number: u64, stored: &[u8], bv: u8, bits: u8, out: &mut [u8]) -> Answer<Decoded> {
+pub fn decode_supplied(number: u64, stored: &[u8], bv: u8, options: Options, out: &mut [u8]) -> Answer<Decoded> {
     lend([Read("stored", stored), Written("out", out)], |[s, mut o]| {
-        decoded(lumeviqo::decode_supplied(number, s.bytes(), bv, options(bits), o.bytes_mut()), o.bytes())
+        decoded(lumeviqo::decode_supplied(number, s.bytes(), bv, typed(options), o.bytes_mut()), o.bytes())
     })
 }
 
-pub fn decode_supplied_summary(number: u64, stored: &[u8], summary: &Summary, bv: u8, bits: u8, out: &mut [u8]) -> Answer<Decoded> {
+pub fn decode_supplied_summary(number: u64, stored: &[u8], summary: &Summary, bv: u8, options: Options, out: &mut [u8]) -> Answer<Decoded> {
     let fits = summary.typed_fits();
     lend([Read("stored", stored), Read("shifted", &summary.shifted), Written("out", out)], |[s, m, mut o]| {
-        let answer = lumeviqo::decode_supplied_summary(number, s.bytes(), &fits, m.bytes(), bv, options(bits), o.bytes_mut());
+        let answer = lumeviqo::decode_supplied_summary(number, s.bytes(), &fits, m.bytes(), bv, typed(options), o.bytes_mut());
         decoded(answer, o.bytes())
     })
 }
 
 /// The parse and all rows, which are two calls; what refuses one refuses both.
-pub fn parse_and_rows(number: u64, plain: &[u8], bits: u8) -> Answer<Parsed> {
+pub fn parse_and_rows(number: u64, plain: &[u8], options: Options) -> Answer<Parsed> {
     lend([Read("plain", plain)], |[p]| {
-        let parsed = lumeviqo::parse(number, p.bytes(), leniency(bits));
-        let rows = lumeviqo::rows(number, p.bytes(), leniency(bits));
+        let parsed = lumeviqo::parse(number, p.bytes(), typed(options));
+        let rows = lumeviqo::rows(number, p.bytes(), typed(options));
         assert_eq!(parsed.as_ref().err(), rows.as_ref().err(), "the parse and the rows of one page");
         parsed.and_then(|p| rows.map(|rows| told::parsed(p, &rows))).map_err(told::refusal)
     })
 }
 
-pub fn row_count(number: u64, plain: &[u8], bits: u8) -> Answer<usize> {
-    lend([Read("plain", plain)], |[p]| lumeviqo::row_count(number, p.bytes(), leniency(bits)).map_err(told::refusal))
+pub fn row_count(number: u64, plain: &[u8], options: Options) -> Answer<usize> {
+    lend([Read("plain", plain)], |[p]| lumeviqo::row_count(number, p.bytes(), typed(options)).map_err(told::refusal))
 }
 
-pub fn row(number: u64, plain: &[u8], bits: u8, row: usize) -> Answer<Row> {
-    lend([Read("plain", plain)], |[p]| lumeviqo::row(number, p.bytes(), leniency(bits), row).map(told::row).map_err(told::refusal))
+pub fn row(number: u64, plain: &[u8], options: Options, row: usize) -> Answer<Row> {
+    lend([Read("plain", plain)], |[p]| lumeviqo::row(number, p.bytes(), typed(options), row).map(told::row).map_err(told::refusal))
 }

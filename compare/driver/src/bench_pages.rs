@@ -4,6 +4,7 @@ use oracle::timed;
 
 use crate::checks::{Difference, compare};
 use crate::kinds::Case;
+use crate::limits::{GREATEST, USUAL};
 use crate::plan::{DATA, Plan, put};
 use crate::random::Random;
 use crate::tally::Tally;
@@ -11,7 +12,7 @@ use crate::tally::Tally;
 pub const COUNT: usize = 8;
 /// KEYSTREAM: pages without rows and exact sectors are decoded to their end.
 pub const BITS: u8 = 1;
-pub const OPTIONS: Options = Options { leniency: Leniency(BITS), min_trailer_count: 4 };
+pub const OPTIONS: Options = Options { leniency: Leniency(BITS), min_trailer_count: 4, search_limit: USUAL };
 
 pub struct Pages {
     pub name: &'static str,
@@ -43,7 +44,7 @@ impl Pages {
         &self.stored[(k + 1) % COUNT][k * 512..(k * 512 + 512).min(DATA)]
     }
 
-    /// Whether both sides answer every question about them alike, with the bits that are timed; if not, where they differ.
+    /// Whether both sides answer every question about them alike, with the bits and at the limits that are timed; if not, where they differ.
     pub fn check(&self) -> Result<(), String> {
         for k in 0..COUNT {
             for bits in [BITS, 0] {
@@ -73,6 +74,8 @@ impl Pages {
             bv: self.bv(k),
             plain: Some(self.plain[k].clone()),
             replacements: vec![(k, self.replacement(k).to_vec())],
+            limit: GREATEST,
+            outside: GREATEST + 1,
         }
     }
 }
@@ -101,9 +104,11 @@ pub fn tables() -> [Pages; 3] {
     })
 }
 
-/// The most slots that a page can have, each below the one before, and no prelude.
-pub fn falling() -> Pages {
-    Pages::new("384 falling slots", |_, plan| (0..384).for_each(|k| put(&mut plan.data, 2 * k, (0xFE0 - 8 * k) as u16)))
+/// The most slots that the usual limit leaves room for, and the greatest one; each is below the one before, and there is no prelude.
+pub fn falling() -> [Pages; 2] {
+    [("384 falling slots", 384, 8), ("1,024 falling slots", 1_024, 1)].map(|(name, slots, fall)| {
+        Pages::new(name, |_, plan| (0..slots).for_each(|k| put(&mut plan.data, 2 * k, (0xFE0 - fall * k) as u16)))
+    })
 }
 
 pub fn random() -> Pages {

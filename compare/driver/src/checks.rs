@@ -9,6 +9,8 @@ use oracle::plain::{Decoded, Fit, Refusal};
 
 use crate::kinds::{Case, MARKER};
 use crate::lent::{BEFORE, Fault};
+use crate::limits::{self, USUAL};
+use crate::options::Options;
 use crate::questions::Question;
 use crate::random::Random;
 use crate::shrink::hex;
@@ -21,14 +23,24 @@ use crate::{as_c, as_rust, layouts};
 pub struct Difference {
     pub question: Question,
     pub detail: String,
+    /// The search limit that was asked for, the usual one where none is.
+    pub limit: usize,
 }
 
 type Checked = Result<(), Difference>;
 
 impl Difference {
+    fn new(question: Question, detail: String) -> Self {
+        Difference { question, detail, limit: USUAL }
+    }
+
     /// What was asked, where the case does not say it.
     fn asked(self, what: String) -> Self {
         Difference { detail: format!("{}\nasked with {what}", self.detail), ..self }
+    }
+
+    fn asked_at(self, limit: usize) -> Self {
+        Difference { limit, ..self.asked(format!("limit {limit}")) }
     }
 }
 
@@ -40,7 +52,9 @@ pub fn compare(case: &Case, tally: &mut Tally) -> Checked {
         Err(_) => [(PAGE, SHIFTED), (5, 3)].into_iter().try_for_each(|(room, shifted)| lengths(case, room, shifted, tally))?,
     }
     if let Some(plain) = &case.plain {
-        rows(case, plain, tally)?;
+        for limit in [USUAL, case.limit, case.outside] {
+            rows(case, plain, limit, tally).map_err(|d| d.asked_at(limit))?;
+        }
     }
     Ok(())
 }
@@ -50,15 +64,15 @@ fn same<A: PartialEq + Debug>(tally: &mut Tally, question: Question, reader: Res
     tally.asked(question);
     match reader {
         Ok(reader) if reader == *original => Ok(()),
-        Ok(reader) => Err(Difference { question, detail: format!("reader   {reader:?}\noriginal {original:?}") }),
-        Err(detail) => Err(Difference { question, detail }),
+        Ok(reader) => Err(Difference::new(question, format!("reader   {reader:?}\noriginal {original:?}"))),
+        Err(detail) => Err(Difference::new(question, detail)),
     }
 }
 
 /// By all bytes of the layout.
 fn exactly(tally: &mut Tally, question: Question, answer: as_c::Answer, layout: &[u8]) -> Checked {
     tally.asked(question);
-    let answer = answer.map_err(|detail| Difference { question, detail })?;
+    let answer = answer.map_err(|detail| Difference::new(question, detail))?;
     holds(question, "the answer", &answer, layout)
 }
 
@@ -68,7 +82,7 @@ fn holds(question: Question, what: &str, reader: &[u8], expected: &[u8]) -> Chec
     }
     let at = reader.iter().zip(expected).take_while(|(a, b)| a == b).count();
     let from = |bytes: &[u8]| hex(&bytes[at..(at + 24).min(bytes.len())]);
-    Err(Difference { question, detail: format!("{what}, from byte {at}\nreader   {}\nexpected {}", from(reader), from(expected)) })
+    Err(Difference::new(question, format!("{what}, from byte {at}\nreader   {}\nexpected {}", from(reader), from(expected))))
 }
 
 fn refused(number: usize, value: usize) -> Refusal {
@@ -134,29 +148,36 @@ fn marked(page: &[u8], r: &mut Random) -> (usize, Vec<u8>) {
 
 /// Scan, decodings and replacements of a page of the right length.
 fn whole_page(case: &Case, reading: &Reading<'_>, tally: &mut Tally) -> Checked {
-    let (n, page, anchors, bits) = (case.number, &case.page[..], &case.anchors[..], case.bits);
     let summary = Summary::of(reading);
     tally.scanned(&summary.fits);
     scan(case, &Ok(&summary), SHIFTED, tally)?;
 
-    // The case's options and anchors by its own scan, and the summary with those, without anchors, and in full leniency.
-    let expected = reading.decode(anchors, bits);
-    decoding_as_c(tally, Question::Decoding, PAGE, &expected, |o| as_c::decode(n, page, anchors, bits, o))?;
-    from_summary(tally, Question::SummaryDecoding, case, page, &summary, anchors, bits, &expected)?;
-    for (anchors, bits) in [(anchors, bits ^ 1), (&[], 7)] {
-        from_summary(tally, Question::SummaryDecoding, case, page, &summary, anchors, bits, &reading.decode(anchors, bits))?;
+    for limit in [USUAL, case.limit] {
+        decodings(case, reading, &summary, limit, tally).map_err(|d| d.asked_at(limit))?;
     }
-    many_anchors(case, reading, &summary, tally)?;
-    foreign(case, &reading.turned(), tally)?;
-
-    supplied(case, reading, &summary, tally)?;
-    if let Ok(d) = &expected {
-        rows(case, &d.plain, tally)?;
-    }
-    let mut r = Random::new(n, page[4095] as u64);
+    refused_decodings(case, PAGE, SHIFTED, case.outside, tally)?;
+    let mut r = Random::new(case.number, case.page[4095] as u64);
     let (room, shifted) = (r.of(&[0, 1, 4079, SHIFTED, 4081, 4095, 4097]), r.of(&[0, 1, 4079, 4081, 4095, PAGE, 4097]));
     [(room, shifted), (room, SHIFTED), (PAGE, shifted)].into_iter().try_for_each(|(room, shifted)| lengths(case, room, shifted, tally))?;
     replacements(case, summary, tally)
+}
+
+/// The four decodings at a limit, and the rows of what they give.
+fn decodings(case: &Case, reading: &Reading<'_>, summary: &Summary, limit: usize, tally: &mut Tally) -> Checked {
+    let (n, page, anchors, options) = (case.number, &case.page[..], &case.anchors[..], Options { bits: case.bits, limit });
+    // The case's options and anchors by its own scan, and the summary with those, without anchors, and in full leniency.
+    let expected = reading.decode(anchors, options.bits, limit);
+    decoding_as_c(tally, Question::Decoding, limit, PAGE, &expected, |o| as_c::decode(n, page, anchors, options, o))?;
+    from_summary(tally, Question::SummaryDecoding, case, page, summary, anchors, options, &expected)?;
+    for (anchors, bits) in [(anchors, options.bits ^ 1), (&[], 7)] {
+        let expected = reading.decode(anchors, bits, limit);
+        from_summary(tally, Question::SummaryDecoding, case, page, summary, anchors, Options { bits, limit }, &expected)?;
+    }
+    many_anchors(case, reading, summary, options, tally)?;
+    foreign(case, &reading.turned(), options, tally)?;
+
+    supplied(case, reading, summary, options, tally)?;
+    expected.map_or(Ok(()), |d| rows(case, &d.plain, limit, tally))
 }
 
 /// The fits and the shifted bytes, or a refusal that writes none.
@@ -179,12 +200,13 @@ fn scan(case: &Case, expected: &Result<&Summary, Refusal>, room: usize, tally: &
 fn decoding(
     tally: &mut Tally,
     question: Question,
+    limit: usize,
     room: usize,
     expected: &Result<Decoded, Refusal>,
     as_c: impl FnOnce(&mut [u8]) -> as_c::Answer,
     as_rust: impl FnOnce(&mut [u8]) -> as_rust::Answer<Decoded>,
 ) -> Checked {
-    decoding_as_c(tally, question, room, expected, as_c)?;
+    decoding_as_c(tally, question, limit, room, expected, as_c)?;
     let mut out = vec![BEFORE; room];
     same(tally, question, as_rust(&mut out), expected)?;
     holds(question, "out", &out, &plaintext(expected, room))
@@ -193,11 +215,12 @@ fn decoding(
 fn decoding_as_c(
     tally: &mut Tally,
     question: Question,
+    limit: usize,
     room: usize,
     expected: &Result<Decoded, Refusal>,
     as_c: impl FnOnce(&mut [u8]) -> as_c::Answer,
 ) -> Checked {
-    tally.decoding(question, expected);
+    tally.decoding(limit, question, expected);
     let mut out = vec![BEFORE; room];
     exactly(tally, question, as_c(&mut out), &layouts::decoding(expected))?;
     holds(question, "out", &out, &plaintext(expected, room))
@@ -215,21 +238,22 @@ fn from_summary(
     page: &[u8],
     summary: &Summary,
     anchors: &[u8],
-    bits: u8,
+    options: Options,
     expected: &Result<Decoded, Refusal>,
 ) -> Checked {
-    let as_c = |o: &mut [u8]| as_c::decode_summary(case.number, page, summary, anchors, bits, o);
-    decoding(tally, question, PAGE, expected, as_c, |o| as_rust::decode_summary(case.number, page, summary, anchors, bits, o))
-        .map_err(|d| d.asked(format!("options {bits}, anchors {anchors:?}")))
+    let as_c = |o: &mut [u8]| as_c::decode_summary(case.number, page, summary, anchors, options, o);
+    let as_rust = |o: &mut [u8]| as_rust::decode_summary(case.number, page, summary, anchors, options, o);
+    decoding(tally, question, options.limit, PAGE, expected, as_c, as_rust)
+        .map_err(|d| d.asked(format!("options {}, anchors {anchors:?}", options.bits)))
 }
 
 /// From the summary of another page, as that is, and with any numbers of tied steps: they are passed on as lent.
-fn foreign(case: &Case, other: &Reading<'_>, tally: &mut Tally) -> Checked {
-    let (question, page, anchors, bits) = (Question::ForeignDecoding, &case.page, &case.anchors, case.bits);
-    let (summary, expected) = (Summary::of(other), other.decode(anchors, bits));
-    from_summary(tally, question, case, page, &summary, anchors, bits, &expected)?;
+fn foreign(case: &Case, other: &Reading<'_>, options: Options, tally: &mut Tally) -> Checked {
+    let (question, page, anchors) = (Question::ForeignDecoding, &case.page, &case.anchors);
+    let (summary, expected) = (Summary::of(other), other.decode(anchors, options.bits, options.limit));
+    from_summary(tally, question, case, page, &summary, anchors, options, &expected)?;
     let (summary, expected) = (summary.with_tied(ANY_TIED), expected.map(|d| d.with_tied(ANY_TIED)));
-    from_summary(tally, question, case, page, &summary, anchors, bits, &expected).map_err(lent_tied)
+    from_summary(tally, question, case, page, &summary, anchors, options, &expected).map_err(lent_tied)
 }
 
 fn lent_tied(d: Difference) -> Difference {
@@ -237,54 +261,55 @@ fn lent_tied(d: Difference) -> Difference {
 }
 
 /// More anchors than a byte counts, for one page in fifty more than two bytes do; those that may decide stand last.
-fn many_anchors(case: &Case, reading: &Reading<'_>, summary: &Summary, tally: &mut Tally) -> Checked {
-    let (n, page, bits) = (case.number, &case.page[..], case.bits);
+fn many_anchors(case: &Case, reading: &Reading<'_>, summary: &Summary, options: Options, tally: &mut Tally) -> Checked {
+    let (n, page, Options { bits, limit }) = (case.number, &case.page[..], options);
     let (idle, times) = (case.bv.wrapping_add(128), if n % 50 == 49 { 65_536 } else { 255 + n as usize % 70 });
     let last = if case.anchors.is_empty() { &[case.bv][..] } else { &case.anchors };
     let anchors = [&vec![idle; times], last].concat();
-    let expected = reading.decode(&anchors, bits);
+    let expected = reading.decode(&anchors, bits, limit);
     // Rust has the page scanned, C has the summary: both functions see them all, and a scan is the longest part of a call.
-    let as_c = |o: &mut [u8]| as_c::decode_summary(n, page, summary, &anchors, bits, o);
-    let as_rust = |o: &mut [u8]| as_rust::decode(n, page, &anchors, bits, o);
-    decoding(tally, Question::ManyAnchors, PAGE, &expected, as_c, as_rust)
+    let as_c = |o: &mut [u8]| as_c::decode_summary(n, page, summary, &anchors, options, o);
+    let as_rust = |o: &mut [u8]| as_rust::decode(n, page, &anchors, options, o);
+    decoding(tally, Question::ManyAnchors, limit, PAGE, &expected, as_c, as_rust)
         .map_err(|d| d.asked(format!("options {bits}, anchors {times} times {idle}, then {last:?}")))
 }
 
-fn supplied(case: &Case, reading: &Reading<'_>, summary: &Summary, tally: &mut Tally) -> Checked {
-    let (n, page, bv, bits) = (case.number, &case.page[..], case.bv, case.bits);
-    let expected = reading.decode_supplied(bv, bits);
-    let as_c = |o: &mut [u8]| as_c::decode_supplied(n, page, bv, bits, o);
-    decoding(tally, Question::Supplied, PAGE, &expected, as_c, |o| as_rust::decode_supplied(n, page, bv, bits, o))?;
+fn supplied(case: &Case, reading: &Reading<'_>, summary: &Summary, options: Options, tally: &mut Tally) -> Checked {
+    let (n, page, bv, limit) = (case.number, &case.page[..], case.bv, options.limit);
+    let expected = reading.decode_supplied(bv, options.bits, limit);
+    let as_c = |o: &mut [u8]| as_c::decode_supplied(n, page, bv, options, o);
+    decoding(tally, Question::Supplied, limit, PAGE, &expected, as_c, |o| as_rust::decode_supplied(n, page, bv, options, o))?;
     let (summary, expected) = (summary.clone().with_tied(ANY_TIED), expected.map(|d| d.with_tied(ANY_TIED)));
-    let as_c = |o: &mut [u8]| as_c::decode_supplied_summary(n, page, &summary, bv, bits, o);
-    let as_rust = |o: &mut [u8]| as_rust::decode_supplied_summary(n, page, &summary, bv, bits, o);
-    decoding(tally, Question::SummarySupplied, PAGE, &expected, as_c, as_rust).map_err(lent_tied)
+    let as_c = |o: &mut [u8]| as_c::decode_supplied_summary(n, page, &summary, bv, options, o);
+    let as_rust = |o: &mut [u8]| as_rust::decode_supplied_summary(n, page, &summary, bv, options, o);
+    decoding(tally, Question::SummarySupplied, limit, PAGE, &expected, as_c, as_rust).map_err(lent_tied)
 }
 
 /// By the case's options, and with DIRECTORY the other way.
-fn rows(case: &Case, plain: &[u8], tally: &mut Tally) -> Checked {
-    [case.bits, case.bits ^ 2]
-        .into_iter()
-        .try_for_each(|bits| rows_by(case.number, plain, bits, tally).map_err(|d| d.asked(format!("options {bits}"))))
+fn rows(case: &Case, plain: &[u8], limit: usize, tally: &mut Tally) -> Checked {
+    for bits in [case.bits, case.bits ^ 2] {
+        rows_by(case.number, plain, Options { bits, limit }, tally).map_err(|d| d.asked(format!("options {bits}")))?;
+    }
+    Ok(())
 }
 
 /// The parse of a plain page, its rows, each of them, and some that it has not.
-fn rows_by(n: u64, plain: &[u8], bits: u8, tally: &mut Tally) -> Checked {
-    let expected = oracle::parse(n, plain, bits);
-    tally.parsed(&expected);
-    exactly(tally, Question::Parse, as_c::parse(n, plain, bits), &layouts::parse(&expected))?;
-    exactly(tally, Question::RowCount, as_c::row_count(n, plain, bits), &layouts::row_count(&expected))?;
-    exactly(tally, Question::Rows, as_c::rows(n, plain, bits), &layouts::rows(&expected))?;
-    same(tally, Question::Rows, as_rust::parse_and_rows(n, plain, bits), &expected)?;
+fn rows_by(n: u64, plain: &[u8], options: Options, tally: &mut Tally) -> Checked {
+    let expected = limits::parsed(n, plain, options.bits, options.limit);
+    tally.parsed(options.limit, &expected);
+    exactly(tally, Question::Parse, as_c::parse(n, plain, options), &layouts::parse(&expected))?;
+    exactly(tally, Question::RowCount, as_c::row_count(n, plain, options), &layouts::row_count(&expected))?;
+    exactly(tally, Question::Rows, as_c::rows(n, plain, options), &layouts::rows(&expected))?;
+    same(tally, Question::Rows, as_rust::parse_and_rows(n, plain, options), &expected)?;
     let count = expected.as_ref().map(|p| p.rows.len()).map_err(Clone::clone);
-    same(tally, Question::RowCount, as_rust::row_count(n, plain, bits), &count)?;
+    same(tally, Question::RowCount, as_rust::row_count(n, plain, options), &count)?;
 
     let count = count.unwrap_or(0);
     for row in (0..=count).chain([1 << 16, 1 << 32, usize::MAX]) {
         let found = layouts::row_of(&expected, row).cloned();
-        tally.answer(Question::Row, found.as_ref().err());
-        exactly(tally, Question::Row, as_c::row(n, plain, bits, row), &layouts::row(&expected, row))
-            .and_then(|()| same(tally, Question::Row, as_rust::row(n, plain, bits, row), &found))
+        tally.answer_at(options.limit, Question::Row, found.as_ref().err());
+        exactly(tally, Question::Row, as_c::row(n, plain, options, row), &layouts::row(&expected, row))
+            .and_then(|()| same(tally, Question::Row, as_rust::row(n, plain, options, row), &found))
             .map_err(|d| d.asked(format!("row {row}")))?;
     }
     Ok(())
@@ -298,35 +323,49 @@ fn wrong_length(page: usize, out: Option<usize>, shifted: Option<usize>) -> Opti
         .or_else(|| wrong(h::WRONG_BUFFER_LENGTH, shifted?, SHIFTED))
 }
 
+/// Each function that takes a page and a buffer, where a length is wrong. The original has no buffers: they are document 01's.
 fn lengths(case: &Case, room: usize, shifted: usize, tally: &mut Tally) -> Checked {
-    wrong_lengths(case, room, shifted, tally).map_err(|d| d.asked(format!("room for {room} plain bytes and {shifted} shifted ones")))
+    [USUAL, case.outside].into_iter().try_for_each(|limit| refused_decodings(case, room, shifted, limit, tally))?;
+    refused_summaries(case, shifted, tally).map_err(|d| d.asked(format!("room for {shifted} shifted bytes")))
 }
 
-/// Each function that takes a page and a buffer, where a length is wrong. The original has no buffers: they are document 01's.
-fn wrong_lengths(case: &Case, room: usize, shifted: usize, tally: &mut Tally) -> Checked {
-    let (n, page, anchors, bits, bv) = (case.number, &case.page[..], &case.anchors[..], case.bits, case.bv);
-    let summary = &Summary::of_none(vec![BEFORE; shifted]);
-    if let Some(refusal) = wrong_length(page.len(), Some(room), None) {
-        let expected = Err(refusal);
-        let as_c = |o: &mut [u8]| as_c::decode(n, page, anchors, bits, o);
-        decoding(tally, Question::Decoding, room, &expected, as_c, |o| as_rust::decode(n, page, anchors, bits, o))?;
-        let as_c = |o: &mut [u8]| as_c::decode_supplied(n, page, bv, bits, o);
-        decoding(tally, Question::Supplied, room, &expected, as_c, |o| as_rust::decode_supplied(n, page, bv, bits, o))?;
-    }
-    if let Some(refusal) = wrong_length(page.len(), Some(room), Some(shifted)) {
-        let expected = Err(refusal);
-        let as_c = |o: &mut [u8]| as_c::decode_summary(n, page, summary, anchors, bits, o);
-        let as_rust = |o: &mut [u8]| as_rust::decode_summary(n, page, summary, anchors, bits, o);
-        decoding(tally, Question::SummaryDecoding, room, &expected, as_c, as_rust)?;
-        let as_c = |o: &mut [u8]| as_c::decode_supplied_summary(n, page, summary, bv, bits, o);
-        let as_rust = |o: &mut [u8]| as_rust::decode_supplied_summary(n, page, summary, bv, bits, o);
-        decoding(tally, Question::SummarySupplied, room, &expected, as_c, as_rust)?;
-    }
-    if let Some(refusal) = wrong_length(page.len(), None, Some(shifted)) {
-        scan(case, &Err(refusal), shifted, tally)?;
-        for (sector, new) in [(0, &[1; 512][..]), (9, &[1; 3])] {
-            replacement(tally, Question::Replacement, n, &mut page.to_vec(), &mut summary.clone(), sector, new)?;
-        }
+/// The four decodings, where a length or else the limit is wrong.
+fn refused_decodings(case: &Case, room: usize, shifted: usize, limit: usize, tally: &mut Tally) -> Checked {
+    by_their_scan(case, room, limit, tally)
+        .and_then(|()| by_a_summary(case, room, shifted, limit, tally))
+        .map_err(|d| d.asked(format!("room for {room} plain bytes and {shifted} shifted ones")).asked_at(limit))
+}
+
+fn by_their_scan(case: &Case, room: usize, limit: usize, tally: &mut Tally) -> Checked {
+    let (n, page, anchors, bv, options) = (case.number, &case.page[..], &case.anchors[..], case.bv, Options { bits: case.bits, limit });
+    let Some(refusal) = wrong_length(page.len(), Some(room), None).or_else(|| limits::refusal(limit)) else { return Ok(()) };
+    let expected = Err(refusal);
+    let as_c = |o: &mut [u8]| as_c::decode(n, page, anchors, options, o);
+    decoding(tally, Question::Decoding, limit, room, &expected, as_c, |o| as_rust::decode(n, page, anchors, options, o))?;
+    let as_c = |o: &mut [u8]| as_c::decode_supplied(n, page, bv, options, o);
+    decoding(tally, Question::Supplied, limit, room, &expected, as_c, |o| as_rust::decode_supplied(n, page, bv, options, o))
+}
+
+fn by_a_summary(case: &Case, room: usize, shifted: usize, limit: usize, tally: &mut Tally) -> Checked {
+    let (n, page, anchors, bv, options) = (case.number, &case.page[..], &case.anchors[..], case.bv, Options { bits: case.bits, limit });
+    let wrong = wrong_length(page.len(), Some(room), Some(shifted)).or_else(|| limits::refusal(limit));
+    let Some(refusal) = wrong else { return Ok(()) };
+    let (expected, summary) = (Err(refusal), &Summary::of_none(vec![BEFORE; shifted]));
+    let as_c = |o: &mut [u8]| as_c::decode_summary(n, page, summary, anchors, options, o);
+    let as_rust = |o: &mut [u8]| as_rust::decode_summary(n, page, summary, anchors, options, o);
+    decoding(tally, Question::SummaryDecoding, limit, room, &expected, as_c, as_rust)?;
+    let as_c = |o: &mut [u8]| as_c::decode_supplied_summary(n, page, summary, bv, options, o);
+    let as_rust = |o: &mut [u8]| as_rust::decode_supplied_summary(n, page, summary, bv, options, o);
+    decoding(tally, Question::SummarySupplied, limit, room, &expected, as_c, as_rust)
+}
+
+/// Scan and replacement, where a length is wrong.
+fn refused_summaries(case: &Case, shifted: usize, tally: &mut Tally) -> Checked {
+    let Some(refusal) = wrong_length(case.page.len(), None, Some(shifted)) else { return Ok(()) };
+    scan(case, &Err(refusal), shifted, tally)?;
+    for (sector, new) in [(0, &[1; 512][..]), (9, &[1; 3])] {
+        let (mut page, mut summary) = (case.page.clone(), Summary::of_none(vec![BEFORE; shifted]));
+        replacement(tally, Question::Replacement, case.number, &mut page, &mut summary, sector, new)?;
     }
     Ok(())
 }
@@ -351,8 +390,8 @@ fn replacements(case: &Case, own: Summary, tally: &mut Tally) -> Checked {
     let reading = Reading::new(n, &page).expect("its length is as it was");
     same(tally, Question::Replacement, Ok(summary.clone()), &Summary::of(&reading))?;
     for bits in [7, 4] {
-        let expected = reading.decode(&case.anchors, bits);
-        from_summary(tally, Question::SummaryDecoding, case, &page, &summary, &case.anchors, bits, &expected)?;
+        let (options, expected) = (Options { bits, limit: USUAL }, reading.decode(&case.anchors, bits, USUAL));
+        from_summary(tally, Question::SummaryDecoding, case, &page, &summary, &case.anchors, options, &expected)?;
     }
     Ok(())
 }

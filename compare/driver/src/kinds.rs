@@ -1,5 +1,6 @@
 //! The kinds of input. Each is made from a stream of random numbers alone.
-use crate::plan::{DATA, Fill, LIMIT, Plan, fill, inexact, put, slots, triangular, write_directory};
+use crate::limits::{self, GREATEST, LEAST, USUAL};
+use crate::plan::{DATA, Fill, Plan, fill, inexact, put, slots, triangular, write_directory};
 use crate::random::Random;
 
 /// One input, and what is asked about it.
@@ -15,6 +16,9 @@ pub struct Case {
     /// A plain page that is parsed besides the decoded one.
     pub plain: Option<Vec<u8>>,
     pub replacements: Vec<(usize, Vec<u8>)>,
+    /// A search limit at which it is asked besides the usual one, and one that is out of range.
+    pub limit: usize,
+    pub outside: usize,
 }
 
 /// The engine's copyright text, which a superblock has somewhere.
@@ -49,6 +53,11 @@ pub const KINDS: &[(&str, usize, Maker)] = &[
     ("wrong lengths", 2, lengths),
     ("replaced sectors", 4, replaced),
     ("damaged copies", 6, damaged),
+    ("across another limit", 4, across),
+    ("preludes at another limit", 4, at_limit),
+    ("past 0x300", 5, past),
+    ("1,024 slots", 1, most_slots),
+    ("the least limits", 2, least),
 ];
 
 /// Input number `index` of a seed.
@@ -83,6 +92,8 @@ fn case_of(r: &mut Random, plan: Plan) -> Case {
         bv: if r.one_in(4) { r.byte() } else { plan.bv },
         plain,
         replacements: Vec::new(),
+        limit: limits::other(r),
+        outside: r.of(&limits::OUTSIDE),
     }
 }
 
@@ -248,7 +259,7 @@ fn prelude(r: &mut Random) -> Case {
     let from = r.from_to(2, 8);
     fill_rest(r, &mut plan, from);
     if r.one_in(4) {
-        for b in plan.data[..LIMIT].iter_mut() {
+        for b in plan.data[..USUAL].iter_mut() {
             *b = r.byte();
         }
     }
@@ -281,7 +292,7 @@ fn several(r: &mut Random) -> Case {
     fill_rest(r, &mut plan, from);
     let n = r.from_to(1, 20);
     for _ in 0..r.from_to(2, 4) {
-        let (field, gap) = (r.below(LIMIT), r.of(&[4, 6]));
+        let (field, gap) = (r.below(USUAL), r.of(&[4, 6]));
         let list = slots(r, n, 0x400, 0xFF0);
         write_directory(r, &mut plan.data, field, gap, n as u16, &list);
     }
@@ -316,7 +327,7 @@ fn scanned(r: &mut Random) -> Case {
     fill_rest(r, &mut plan, from);
     for _ in 0..r.from_to(1, 3) {
         let n = r.of(&[3, 4, 5, 7, 8, 9, 30, 120]);
-        let at = r.below(LIMIT);
+        let at = r.below(USUAL);
         let list = slots(r, n, 0x300, 0xFF0);
         for (k, &s) in list.iter().enumerate() {
             put(&mut plan.data, at + 2 * k, s);
@@ -333,7 +344,7 @@ fn few_rows(r: &mut Random) -> Case {
     let n = r.from_to(1, 3);
     for _ in 0..r.below(4) {
         let list = slots(r, n, 0x300, 0xFF0);
-        let (field, gap) = (r.below(LIMIT), r.of(&[4, 6]));
+        let (field, gap) = (r.below(USUAL), r.of(&[4, 6]));
         write_directory(r, &mut plan.data, field, gap, n as u16, &list);
     }
     plan.rows(n as u8);
@@ -363,7 +374,7 @@ fn words(r: &mut Random) -> Case {
     let n = r.of(&[0, 1, 2, 4, 4, 5, 6, 8]);
     let mut at = r.below(2);
     let mut prev = 0xFF0;
-    while at < LIMIT + 8 {
+    while at < USUAL + 8 {
         let w = match r.below(10) {
             0 | 1 => 0,
             2 => n as usize,
@@ -560,7 +571,7 @@ fn damaged(r: &mut Random) -> Case {
     let makers: [Maker; 8] = [calibrated, corroborated, dissent, prelude, several, two_verified, contested, words];
     let mut case = makers[r.below(makers.len())](r);
     for _ in 0..r.from_to(1, 6) {
-        let at = if r.one_in(3) { r.below(LIMIT) } else { r.below(4096) };
+        let at = if r.one_in(3) { r.below(USUAL) } else { r.below(4096) };
         let n = r.of(&[1, 1, 2, 4, 16, 200]).min(4096 - at);
         for b in &mut case.page[at..at + n] {
             *b = r.byte();
@@ -572,6 +583,82 @@ fn damaged(r: &mut Random) -> Case {
         recrc(&mut case.page);
     }
     case
+}
+
+/// Slots on both sides of a limit: a scan takes those before it, a prelude declares them all.
+fn across(r: &mut Random) -> Case {
+    let mut plan = Plan::new(r);
+    let limit = limits::other(r);
+    let (n, gap) = (r.of(&[4, 5, 8, 30, 120, 255]), r.of(&[4, 6]));
+    let before = 2 * r.from_to(1, n) + r.below(2);
+    let field = limit.saturating_sub(gap + before);
+    let list = slots(r, n, 0xA00, 0xFF0);
+    write_directory(r, &mut plan.data, field, gap, n as u16, &list);
+    plan.rows(if r.one_in(4) { 0 } else { n as u8 });
+    limited_case(r, plan, limit)
+}
+
+/// The last field that a limit leaves, the one behind it, and their neighbours; the slots run past the limit.
+fn at_limit(r: &mut Random) -> Case {
+    let mut plan = Plan::new(r);
+    let limit = limits::other(r);
+    let (n, gap) = (r.of(&[1, 3, 4, 5, 8, 40, 255]), r.of(&[4, 6]));
+    let field = r.of(&[limit - 2, limit - 1, limit - 1, limit, limit, limit + 1]);
+    let list = slots(r, n, 0xA00, 0xFF0);
+    write_directory(r, &mut plan.data, field, gap, n as u16, &list);
+    plan.rows(n as u8);
+    limited_case(r, plan, limit)
+}
+
+/// A directory that the usual limit keeps from being found, and most often a limit that does not.
+fn past(r: &mut Random) -> Case {
+    let mut plan = Plan::new(r);
+    let (n, gap) = (r.of(&[4, 5, 8, 30, 60, 120]), r.of(&[4, 6]));
+    let field = r.from_to(USUAL, GREATEST - 1);
+    let limit = if r.one_in(8) { limits::other(r) } else { r.from_to(field + 1, GREATEST) };
+    if r.one_in(4) {
+        plan.data[..field].fill_with(|| r.byte());
+    }
+    let list = slots(r, n, 0xA00, 0xFF0);
+    write_directory(r, &mut plan.data, field, gap, n as u16, &list);
+    plan.rows(if r.one_in(6) { 0 } else { n as u8 });
+    limited_case(r, plan, limit)
+}
+
+/// As many slots as the greatest limit leaves room for, or nearly; the faster they fall, the more of them point into the directory.
+fn most_slots(r: &mut Random) -> Case {
+    let mut plan = Plan::new(r);
+    let (start, n, steepest, deleting) = (r.below(2), r.of(&[1_024, 1_024, 1_023, 1_000]), r.of(&[1, 1, 2, 3]), r.one_in(2));
+    let mut slot = r.from_to(0xFE0, 0xFF0);
+    for k in 0..n {
+        slot -= r.from_to(1, steepest);
+        let deleted = deleting && k > 0 && r.one_in(50);
+        put(&mut plan.data, start + 2 * k, if deleted { 0 } else { slot as u16 });
+    }
+    plan.rows(r.of(&[0, 0, 0, 4, 255]));
+    let limit = r.of(&[GREATEST, GREATEST, GREATEST, 2_047, 1_500, 1_024]);
+    limited_case(r, plan, limit)
+}
+
+/// Limits that leave room for a few slots, and slots at the page's start.
+fn least(r: &mut Random) -> Case {
+    let mut plan = Plan::new(r);
+    let (at, n, limit) = (r.below(6), r.from_to(3, 7), r.from_to(LEAST, LEAST + 8));
+    let list = slots(r, n, 0x400, 0xFF0);
+    if r.one_in(2) {
+        write_directory(r, &mut plan.data, at, 4, n as u16, &list);
+        plan.rows(n as u8);
+    } else {
+        list.iter().enumerate().for_each(|(k, &slot)| put(&mut plan.data, at + 2 * k, slot));
+    }
+    limited_case(r, plan, limit)
+}
+
+/// The case of a plan at such a limit, with fills behind all that a search can come to.
+fn limited_case(r: &mut Random, mut plan: Plan, limit: usize) -> Case {
+    let from = r.from_to(6, 8);
+    fill_rest(r, &mut plan, from);
+    Case { limit, ..case_of_page(r, plan) }
 }
 
 fn case_of_page(r: &mut Random, plan: Plan) -> Case {

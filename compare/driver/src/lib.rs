@@ -6,6 +6,8 @@ pub mod checks;
 pub mod kinds;
 pub mod layouts;
 pub mod lent;
+pub mod limits;
+pub mod options;
 pub mod plan;
 pub mod questions;
 pub mod random;

@@ -57,9 +57,9 @@ fn arguments(words: impl Iterator<Item = String>) -> Result<(u64, u64), String> 
 /// A difference with its smallest input, or with the input as it was where it does not come again.
 fn told(case: &Case, seen: &Difference) -> String {
     let Some((small, difference)) = shrink(case) else {
-        return format!("and did not come again, at: {}\n{}\n{}", seen.question, seen.detail, describe(case));
+        return format!("and did not come again, at: {}\n{}\n{}", seen.question, seen.detail, describe(case, seen.limit));
     };
-    format!("at: {}\n{}\n{}", difference.question, difference.detail, describe(&small))
+    format!("at: {}\n{}\n{}", difference.question, difference.detail, describe(&small, difference.limit))
 }
 
 type Differing = Vec<(u64, Difference)>;

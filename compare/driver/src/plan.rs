@@ -2,7 +2,6 @@
 use crate::random::Random;
 
 pub const DATA: usize = 4080;
-pub const LIMIT: usize = 0x300;
 
 pub struct Plan {
     pub number: u64,

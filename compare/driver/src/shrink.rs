@@ -1,15 +1,18 @@
 //! A smaller case on which the two sides still differ.
+use lumeviqo::header::MIN_TRAILER_COUNT;
+
 use crate::as_c::least_count;
 use crate::checks::{Difference, compare};
 use crate::kinds::{Case, recrc};
+use crate::limits::{NAMED, OUTSIDE, USUAL};
 use crate::tally::Tally;
 
 fn differs(case: &Case) -> Option<Difference> {
     compare(case, &mut Tally::default()).err()
 }
 
-/// Leaves out anchors, options, replacements and the plain page, and clears bytes, as long as the same question differs. None where it does not
-/// differ when it is asked again.
+/// Leaves out anchors, options, replacements and the plain page, takes a limit that has a name, and clears bytes, as long as the same question
+/// differs. None where it does not differ when it is asked again.
 pub fn shrink(case: &Case) -> Option<(Case, Difference)> {
     let mut best = case.clone();
     let mut found = differs(case)?;
@@ -36,6 +39,8 @@ pub fn shrink(case: &Case) -> Option<(Case, Difference)> {
     for bits in [0, 1, 2, 4, 7] {
         attempt(&mut best, &|c| c.bits = bits);
     }
+    _ = NAMED.iter().any(|&limit| attempt(&mut best, &|c| c.limit = limit));
+    _ = OUTSIDE.iter().any(|&limit| attempt(&mut best, &|c| c.outside = limit));
     for number in [0, 1, best.number % 16] {
         attempt(&mut best, &|c| c.number = number);
     }
@@ -65,9 +70,10 @@ pub fn shrink(case: &Case) -> Option<(Case, Difference)> {
     Some((best, found))
 }
 
-/// A case in words and hexadecimal; its page as a frame of `report`.
-pub fn describe(case: &Case) -> String {
+/// A case in words and hexadecimal; its page as a frame of `report`, with the limit at which it differs.
+pub fn describe(case: &Case, limit: usize) -> String {
     let mut out = format!("kind: {}\npage number: {}\noptions: {}\nsupplied bv: {}\n", case.kind, case.number, case.bits, case.bv);
+    out += &format!("search limits: {USUAL}, {} and {}, of which it differs at {limit}\n", case.limit, case.outside);
     out += &format!("T: 4, as C asks {}\n", least_count(case.number, &case.page));
     out += &format!("anchors: {:?}\nstored page, {} bytes: {}\n", case.anchors, case.page.len(), runs(&case.page));
     if let Some(plain) = &case.plain {
@@ -76,14 +82,16 @@ pub fn describe(case: &Case) -> String {
     for (sector, bytes) in &case.replacements {
         out += &format!("replacement of sector {sector}, {} bytes: {}\n", bytes.len(), runs(bytes));
     }
-    if case.anchors.len() < 256 {
-        let mut frame = case.number.to_be_bytes().to_vec();
-        frame.extend([case.bits, 4, case.anchors.len() as u8]);
-        frame.extend(&case.anchors);
-        frame.extend(&case.page);
-        out += &format!("frame: {}\n", hex(&frame));
+    if let (Ok(limit), Ok(n)) = (limit.try_into(), case.anchors.len().try_into()) {
+        out +=
+            &format!("frame: {}{}\n", hex(&frame_head(case.number, case.bits, limit, n)), hex(&[&case.anchors[..], &case.page].concat()));
     }
     out
+}
+
+/// What stands before the anchors in a frame of `report`, with the usual T.
+pub fn frame_head(number: u64, bits: u8, limit: u16, anchors: u8) -> Vec<u8> {
+    [&number.to_be_bytes()[..], &[bits, MIN_TRAILER_COUNT as u8], &limit.to_be_bytes(), &[anchors]].concat()
 }
 
 pub fn hex(bytes: &[u8]) -> String {

@@ -1,10 +1,11 @@
-//! How often each kind of input, question, answer, source, confidence, evidence, warning and number of tied steps was met.
+//! How often each kind of input, question, answer, search limit, source, confidence, evidence, warning and number of tied steps was met.
 use std::collections::BTreeMap;
 use std::fmt;
 
 use oracle::plain::{Decoded, Fit, Parsed, Refusal, Warning};
 
 use crate::kinds::KINDS;
+use crate::limits::{Class, NAMED, OUTSIDE, USUAL};
 use crate::questions::Question;
 
 type Counts<K> = BTreeMap<K, u64>;
@@ -14,6 +15,9 @@ pub struct Tally {
     pub pages: Counts<&'static str>,
     pub questions: Counts<Question>,
     pub answers: Counts<(Question, u8)>,
+    /// Of the functions that take a limit, besides.
+    pub by_limit: Counts<(Class, Question, u8)>,
+    pub limits: Counts<usize>,
     pub sources: Counts<u8>,
     pub confidences: Counts<u8>,
     pub evidence: Counts<u8>,
@@ -29,10 +33,16 @@ impl Tally {
     }
 
     pub fn answer(&mut self, question: Question, refusal: Option<&Refusal>) {
-        *self.answers.entry((question, refusal.map_or(0, |r| r.number))).or_default() += 1;
+        *self.answers.entry((question, number(refusal))).or_default() += 1;
         if let Some(Refusal { number: 8, values, .. }) = refusal {
             *self.reasons.entry(values[1] as u8).or_default() += 1;
         }
+    }
+
+    pub fn answer_at(&mut self, limit: usize, question: Question, refusal: Option<&Refusal>) {
+        self.answer(question, refusal);
+        *self.by_limit.entry((Class::of(limit), question, number(refusal))).or_default() += 1;
+        *self.limits.entry(limit).or_default() += 1;
     }
 
     pub fn scanned(&mut self, fits: &[Fit; 8]) {
@@ -41,8 +51,8 @@ impl Tally {
         }
     }
 
-    pub fn decoding(&mut self, question: Question, answer: &Result<Decoded, Refusal>) {
-        self.answer(question, answer.as_ref().err());
+    pub fn decoding(&mut self, limit: usize, question: Question, answer: &Result<Decoded, Refusal>) {
+        self.answer_at(limit, question, answer.as_ref().err());
         if let Ok(d) = answer {
             *self.sources.entry(d.source).or_default() += 1;
             *self.confidences.entry(d.confidence).or_default() += 1;
@@ -54,9 +64,9 @@ impl Tally {
     }
 
     /// The parse, the number of rows and the list of them are refused for the same.
-    pub fn parsed(&mut self, answer: &Result<Parsed, Refusal>) {
+    pub fn parsed(&mut self, limit: usize, answer: &Result<Parsed, Refusal>) {
         for question in [Question::Parse, Question::RowCount, Question::Rows] {
-            self.answer(question, answer.as_ref().err());
+            self.answer_at(limit, question, answer.as_ref().err());
         }
         if let Ok(p) = answer {
             self.warned(&p.warnings);
@@ -73,6 +83,8 @@ impl Tally {
         join(&mut self.pages, other.pages);
         join(&mut self.questions, other.questions);
         join(&mut self.answers, other.answers);
+        join(&mut self.by_limit, other.by_limit);
+        join(&mut self.limits, other.limits);
         join(&mut self.sources, other.sources);
         join(&mut self.confidences, other.confidences);
         join(&mut self.evidence, other.evidence);
@@ -91,6 +103,7 @@ impl Tally {
             let missing = question.answers().iter().filter(|&&n| !self.answers.contains_key(&(*question, n)));
             out.extend(missing.map(|n| format!("answer {n} to \"{question}\"")));
         }
+        out.extend(self.missing_by_limit());
         let mut want = |what: &str, met: &Counts<u8>, numbers: std::ops::RangeInclusive<u8>| {
             out.extend(numbers.filter(|n| !met.contains_key(n)).map(|n| format!("{what} {n}")));
         };
@@ -103,14 +116,48 @@ impl Tally {
         out
     }
 
+    /// Each limit that has a name, and each answer of the eight functions that take one, at limits of each class.
+    fn missing_by_limit(&self) -> Vec<String> {
+        let limits = NAMED.iter().chain(&OUTSIDE).filter(|limit| !self.limits.contains_key(limit));
+        let mut out: Vec<String> = limits.map(|limit| format!("limit {limit}")).collect();
+        for &question in Question::ALL.iter().filter(|q| q.takes_limit()) {
+            for class in Class::ALL {
+                let wanted = question.answers().iter().filter(|&&n| class.must_reach(n));
+                let missing = wanted.filter(|&&n| !self.by_limit.contains_key(&(class, question, n)));
+                out.extend(missing.map(|n| format!("answer {n} to \"{question}\" at {class}")));
+            }
+        }
+        out
+    }
+
     /// Over all questions.
     fn all_answers(&self) -> Counts<u8> {
-        let mut all = Counts::new();
-        for (&(_, number), n) in &self.answers {
-            *all.entry(number).or_default() += n;
-        }
-        all
+        sums(self.answers.iter().map(|(&(_, number), &n)| (number, n)))
     }
+
+    fn answers_at(&self, class: Class) -> Counts<u8> {
+        sums(self.by_limit.iter().filter(|(k, _)| k.0 == class).map(|(&(_, _, number), &n)| (number, n)))
+    }
+
+    /// Of those that have a name each, then of all others.
+    fn limit_counts(&self) -> Vec<String> {
+        let named: Vec<usize> = [USUAL].into_iter().chain(NAMED).chain(OUTSIDE).collect();
+        let others = self.limits.iter().filter(|(limit, _)| !named.contains(limit)).map(|(_, n)| n).sum::<u64>();
+        let count = |limit: &usize| format!("{limit}: {}", self.limits.get(limit).copied().unwrap_or(0));
+        named.iter().map(count).chain([format!("others: {others}")]).collect()
+    }
+}
+
+fn number(refusal: Option<&Refusal>) -> u8 {
+    refusal.map_or(0, |r| r.number)
+}
+
+fn sums<K: Ord>(counts: impl Iterator<Item = (K, u64)>) -> Counts<K> {
+    let mut all = Counts::new();
+    for (k, n) in counts {
+        *all.entry(k).or_default() += n;
+    }
+    all
 }
 
 fn join<K: Ord>(a: &mut Counts<K>, b: Counts<K>) {
@@ -131,14 +178,19 @@ impl fmt::Display for Tally {
             let met = if met.is_empty() { String::new() } else { format!(", answers {}", met.join(" ")) };
             writeln!(f, "  {n:9}  {question}{met}")?;
         }
-        let answers = self.all_answers();
-        let tables =
-            [("answers", &answers), ("reasons of 8", &self.reasons), ("sources", &self.sources), ("confidences", &self.confidences)];
-        for (what, table) in tables.into_iter().chain([("evidence", &self.evidence), ("warnings", &self.warnings)]) {
-            let list: Vec<String> = table.iter().map(|(k, n)| format!("{k}: {n}")).collect();
-            writeln!(f, "{what}\n  {}", list.join(", "))?;
+        writeln!(f, "answers\n  {}", list(&self.all_answers()))?;
+        for class in Class::ALL {
+            writeln!(f, "answers at {class}\n  {}", list(&self.answers_at(class)))?;
         }
-        let tied: Vec<String> = self.tied.iter().map(|(k, n)| format!("{k}: {n}")).collect();
-        writeln!(f, "tied steps\n  {}", tied.join(", "))
+        writeln!(f, "limits\n  {}", self.limit_counts().join(", "))?;
+        let tables = [("reasons of 8", &self.reasons), ("sources", &self.sources), ("confidences", &self.confidences)];
+        for (what, table) in tables.into_iter().chain([("evidence", &self.evidence), ("warnings", &self.warnings)]) {
+            writeln!(f, "{what}\n  {}", list(table))?;
+        }
+        writeln!(f, "tied steps\n  {}", list(&self.tied))
     }
+}
+
+fn list<K: fmt::Display>(counts: &Counts<K>) -> String {
+    counts.iter().map(|(k, n)| format!("{k}: {n}")).collect::<Vec<_>>().join(", ")
 }

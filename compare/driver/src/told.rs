@@ -32,6 +32,7 @@ pub fn refusal(r: lumeviqo::Refusal) -> Refusal {
         R::BadReplacement { sector } => plain(14, &[sector as u64]),
         R::TooManyCandidates { page } => plain(15, &[page]),
         R::NoSuchRow(row) => plain(16, &[row as u64]),
+        R::LimitOutOfRange(limit) => plain(20, &[limit as u64]),
     }
 }
 

@@ -4,11 +4,12 @@ use std::hint::black_box;
 
 use crc32fast::Hasher;
 
+use crate::answers::{confidence, options, refusal, source};
 use crate::ap::ApModel;
 use crate::ap::reached::{Scanned, deobfuscate};
 use crate::page::Page;
 use crate::slotted::SlottedPage;
-use crate::{confidence, options, refusal, source};
+use crate::{limit, limited};
 
 /// crc32fast as it is where the processor has PCLMULQDQ.
 pub fn crc32_pclmulqdq(bytes: &[u8]) -> u32 {
@@ -44,6 +45,13 @@ pub fn parse(number: u64, plain: &[u8], bits: u8) {
 /// All rows: the parse, and the list of them.
 pub fn rows(number: u64, plain: &[u8], bits: u8) {
     drop(black_box(SlottedPage::parse(page(number, plain), &options(bits)).map(|p| p.rows())));
+}
+
+/// A parse by the second copy.
+pub fn parse_at(limit: usize, number: u64, plain: &[u8], bits: u8) {
+    limit::set(limit);
+    let page = limited::page::Page::from_bytes(number, plain).expect("its length is a page's");
+    drop(black_box(limited::slotted::SlottedPage::parse(page, &limited::answers::options(bits))));
 }
 
 /// The bytes of a report line, but for those of tied steps, which the original does not count.

@@ -7,9 +7,10 @@ use std::path::{Path, PathBuf};
 use std::process::{Command, ExitCode};
 
 use compare::bench_pages::{BITS, COUNT, OPTIONS, Pages, falling, progressions, random, tables, zero};
-use compare::shrink::hex;
+use compare::limits::{GREATEST, USUAL};
+use compare::shrink::{frame_head, hex};
 use compare::timing::{Group, table, time};
-use lumeviqo::{Fits, Leniency, PAGE, SHIFTED};
+use lumeviqo::{Fits, Leniency, Options, PAGE, SHIFTED};
 use oracle::{Reading, timed};
 
 /// The limits of a parse, by its pages: exact, dense, mixed; 0, 50 and 200 rows; 384 falling slots, random, all zero. Those of all rows: 50 and
@@ -17,15 +18,23 @@ use oracle::{Reading, timed};
 const STRICT_PARSE: [f64; 9] = [0.87, 0.62, 0.21, 0.51, 1.0, 1.0, 0.0044, 0.61, 0.77];
 const DIRECTORY_PARSE: [f64; 9] = [0.88, 0.62, 0.21, 0.50, 1.0, 1.0, 0.0067, 0.61, 0.77];
 const ALL_ROWS: [f64; 3] = [0.6, 0.6, 0.0082];
+/// That of a search of 2,048 bytes, of the time for 768: 2.7 times the bytes, in one pass.
+const WIDEST: f64 = 3.0;
 
 fn main() -> ExitCode {
     let mut args = std::env::args().skip(1);
     let report = PathBuf::from(args.next().expect("REPORT is the program report"));
     let rounds = args.next().map_or(200, |a| a.parse().expect("ROUNDS is a number"));
     let stored = progressions();
-    let plain: Vec<Pages> = tables().into_iter().chain([falling(), random(), zero()]).collect();
+    let [falling, widest] = falling();
+    let plain: Vec<Pages> = tables().into_iter().chain([falling, random(), zero()]).collect();
     let frames = Frames::all(&stored);
-    let alike = stored.iter().chain(&plain).try_for_each(Pages::check).and_then(|_| frames.iter().try_for_each(|f| f.check(&report)));
+    let alike = stored
+        .iter()
+        .chain(&plain)
+        .chain([&widest])
+        .try_for_each(Pages::check)
+        .and_then(|_| frames.iter().try_for_each(|f| f.check(&report)));
     if let Err(difference) = alike {
         println!("{difference}");
         return ExitCode::FAILURE;
@@ -41,6 +50,8 @@ fn main() -> ExitCode {
         groups.extend(stored.iter().chain(&plain).zip(limits).map(|(pages, limit)| parse(question, pages, leniency, limit)));
     }
     groups.extend(plain[1..4].iter().zip(ALL_ROWS).map(|(pages, limit)| rows(pages, limit)));
+    groups.extend([&plain[0], &plain[4], &plain[5]].map(|pages| at_greatest(pages, Some(WIDEST))));
+    groups.extend([at_greatest(&widest, None), parse_at_greatest(&widest)]);
     groups.push(reports(&frames, &report));
     time(&mut groups, rounds);
 
@@ -126,9 +137,9 @@ fn supplied(pages: &Pages) -> Group<'_> {
 }
 
 fn parse<'a>(question: &'static str, pages: &'a Pages, leniency: Leniency, limit: f64) -> Group<'a> {
-    let p = &pages.plain;
+    let (p, options) = (&pages.plain, Options { leniency, ..OPTIONS });
     let mut g = Group::default();
-    let reader = each(&mut g, move |k| drop(black_box(lumeviqo::parse(k as u64, &p[k], leniency))));
+    let reader = each(&mut g, move |k| drop(black_box(lumeviqo::parse(k as u64, &p[k], options))));
     let original = each(&mut g, move |k| timed::parse(k as u64, &p[k], leniency.0));
     g.ratio(question, pages.name, reader, original, Some(limit));
     g
@@ -137,9 +148,37 @@ fn parse<'a>(question: &'static str, pages: &'a Pages, leniency: Leniency, limit
 fn rows(pages: &Pages, limit: f64) -> Group<'_> {
     let p = &pages.plain;
     let mut g = Group::default();
-    let reader = each(&mut g, |k| drop(black_box(lumeviqo::rows(k as u64, &p[k], Leniency::DIRECTORY))));
+    let reader = each(&mut g, |k| drop(black_box(lumeviqo::rows(k as u64, &p[k], directory(USUAL)))));
     let original = each(&mut g, |k| timed::rows(k as u64, &p[k], Leniency::DIRECTORY.0));
     g.ratio("list of all rows, DIRECTORY", pages.name, reader, original, Some(limit));
+    g
+}
+
+fn directory(search_limit: usize) -> Options {
+    Options { leniency: Leniency::DIRECTORY, search_limit, ..OPTIONS }
+}
+
+/// The reader beside itself: the original's limit is one number.
+fn at_greatest(pages: &Pages, limit: Option<f64>) -> Group<'_> {
+    let p = &pages.plain;
+    let mut g = Group::default();
+    let [greatest, usual] = [GREATEST, USUAL].map(|limit| {
+        let parse = each(&mut g, move |k| drop(black_box(lumeviqo::parse(k as u64, &p[k], directory(limit)))));
+        let rows = each(&mut g, move |k| drop(black_box(lumeviqo::rows(k as u64, &p[k], directory(limit)))));
+        [parse, rows]
+    });
+    g.ratio("parse at 2,048, DIRECTORY, of its own time at 768", pages.name, greatest[0], usual[0], limit);
+    g.ratio("list of all rows at 2,048, DIRECTORY, of its own time at 768", pages.name, greatest[1], usual[1], limit);
+    g
+}
+
+/// Beside the original with its one constant set to another number.
+fn parse_at_greatest(pages: &Pages) -> Group<'_> {
+    let p = &pages.plain;
+    let mut g = Group::default();
+    let reader = each(&mut g, |k| drop(black_box(lumeviqo::parse(k as u64, &p[k], directory(GREATEST)))));
+    let original = each(&mut g, |k| timed::parse_at(GREATEST, k as u64, &p[k], Leniency::DIRECTORY.0));
+    g.ratio("parse at 2,048, DIRECTORY, of the original's with its limit changed", pages.name, reader, original, None);
     g
 }
 
@@ -161,7 +200,10 @@ impl Frames {
     }
 
     fn new(name: &'static str, pages: &[Vec<u8>], count: usize) -> Self {
-        let frame = |k: usize| format!("{:016x}{BITS:02x}0400{}\n", k % pages.len(), hex(&pages[k % pages.len()]));
+        let frame = |k: usize| {
+            let head = frame_head((k % pages.len()) as u64, BITS, USUAL as u16, 0);
+            format!("{}{}\n", hex(&head), hex(&pages[k % pages.len()]))
+        };
         let file = std::env::temp_dir().join(format!("lumeviqo-{}-{name}", std::process::id()));
         std::fs::write(&file, (0..count).map(frame).collect::<String>()).expect("a file for the frames");
         Frames { name, count, file, tied: (0..).zip(pages).map(|(k, page)| tied(k, page)).collect() }
@@ -179,7 +221,7 @@ impl Frames {
 
 /// The digits of a page's tied steps in its line, as they are counted.
 fn tied(number: u64, page: &[u8]) -> String {
-    let decoded = Reading::new(number, page).and_then(|reading| reading.decode(&[], BITS));
+    let decoded = Reading::new(number, page).and_then(|reading| reading.decode(&[], BITS, USUAL));
     decoded.map_or(String::new(), |d| d.fits.iter().map(|f| format!("{:04x}", f.tied)).collect())
 }
 

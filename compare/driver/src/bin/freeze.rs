@@ -1,14 +1,16 @@
 //! freeze SEED FOLDER: the questions and answers of the program `frozen`, as FOLDER/stdin and FOLDER/stdout, all from the original; where it
-//! has no counterpart (lengths of lent buffers, replacement, row numbers) from document 01, and tied steps from the count behind its ap.rs. A question is taken where it shows something that
-//! none before it does: a function's answer or reason, a source with its confidence, a row of evidence, a kind of warning, a type of page; and,
-//! on pages that are made for it, how many steps tied.
+//! has no counterpart (lengths of lent buffers, replacement, row numbers, limits out of range) from documents 01 and 02, and tied steps from the
+//! count behind its ap.rs. A question is taken where it shows something that none before it does: a function's answer or reason, a source with
+//! its confidence, a row of evidence, a kind of warning, a type of page; at another search limit, that this decides whether a page is accepted;
+//! and, on pages that are made for it, how many steps tied, or where a directory lies and how long it is.
 use std::collections::BTreeSet;
 use std::fs::write;
 use std::path::Path;
 
 use compare::kinds::{Case, case, recrc};
 use compare::layouts;
-use compare::plan::triangular;
+use compare::limits::{self, Class, GREATEST, OUTSIDE, USUAL};
+use compare::plan::{DATA, Plan, put, triangular};
 use compare::shrink::hex;
 use oracle::{Decoded, Fit, Parsed, Reading, Refusal, Warning};
 
@@ -29,13 +31,16 @@ enum Asked {
     Row,
     Rows,
     TooMany,
+    SuppliedSummary,
 }
 
+#[derive(Clone, Copy)]
 struct Question<'a> {
     asked: Asked,
     case: &'a Case,
     page: &'a [u8],
     place: usize,
+    limit: usize,
     /// How long the buffer is that the plaintext or the shifted bytes go to.
     room: usize,
     bytes: &'a [u8],
@@ -53,19 +58,50 @@ struct Frozen {
     stdin: Vec<u8>,
     stdout: String,
     questions: usize,
+    /// Those of a limit out of range.
+    outside: usize,
 }
 
 impl Frozen {
     fn take(&mut self, q: Question<'_>, expected: Expected) {
         let before = self.shown.len();
-        self.shown.extend(expected.shows.iter().map(|s| format!("{:?}: {s}", q.asked)));
+        self.shown.extend(expected.shows.iter().map(|s| shown_by(q, s)));
         if self.shown.len() > before {
             self.stdin.extend(question(&q));
             self.stdout += &expected.line;
             self.stdout.push('\n');
             self.questions += 1;
+            self.outside += (Class::of(q.limit) == Class::Outside) as usize;
         }
     }
+
+    /// A question at the case's other limit, and at one that is out of range, which only a wrong length comes before. Its answer at the usual limit
+    /// and at the other one is told, and how the page stands at the usual one.
+    fn take_at_limits<T: Clone>(
+        &mut self,
+        q: Question<'_>,
+        standing: &str,
+        [usual, other]: [&Result<T, Refusal>; 2],
+        line: impl Fn(&Result<T, Refusal>) -> String,
+    ) {
+        let outside = self.next_outside();
+        let refused = limits::refusal(outside).filter(|_| q.page.len() == 4096).map_or_else(|| usual.clone(), Err);
+        for (limit, answer) in [(q.case.limit, other), (outside, &refused)] {
+            let shown = limit_shows(q.case, limit, standing, usual, answer).filter(|s| !self.shown.contains(&shown_by(q, s)));
+            if let Some(shown) = shown {
+                self.take(Question { limit, ..q }, Expected { line: line(answer), shows: vec![shown] });
+            }
+        }
+    }
+
+    /// Out of range, each in its turn.
+    fn next_outside(&self) -> usize {
+        OUTSIDE[self.outside % OUTSIDE.len()]
+    }
+}
+
+fn shown_by(q: Question<'_>, what: &str) -> String {
+    format!("{:?}: {what}", q.asked)
 }
 
 fn main() {
@@ -79,18 +115,23 @@ fn main() {
     for index in 0..6_000 {
         let case = case(seed, index);
         fields(&case, &mut frozen);
-        if case.page.len() == 4096 {
-            whole_page(&case, &mut frozen);
-        }
-        if let Some(plain) = &case.plain {
-            rows(&case, plain, &mut frozen);
-        }
+        page_and_rows(&case, &mut frozen);
     }
     ties().iter().for_each(|case| whole_page(case, &mut frozen));
+    wide().iter().for_each(|case| page_and_rows(case, &mut frozen));
     too_many(&case(seed, 0), &mut frozen);
     println!("{} questions, which show {} things", frozen.questions, frozen.shown.len());
     write(Path::new(folder).join("stdin"), frozen.stdin).expect("FOLDER/stdin can be written");
     write(Path::new(folder).join("stdout"), frozen.stdout).expect("FOLDER/stdout can be written");
+}
+
+fn page_and_rows(case: &Case, frozen: &mut Frozen) {
+    if case.page.len() == 4096 {
+        whole_page(case, frozen);
+    }
+    if let Some(plain) = &case.plain {
+        rows(case, plain, frozen);
+    }
 }
 
 /// A question as the program reads it.
@@ -98,7 +139,9 @@ fn question(q: &Question<'_>) -> Vec<u8> {
     let anchors = &q.case.anchors[..q.case.anchors.len().min(255)];
     let mut out = vec![q.asked as u8];
     out.extend(q.case.number.to_le_bytes());
-    out.extend([q.case.bits, 4, q.case.bv]);
+    out.extend([q.case.bits, 4]);
+    out.extend((q.limit as u64).to_le_bytes());
+    out.push(q.case.bv);
     for n in [q.place, q.page.len(), anchors.len(), q.bytes.len(), q.room] {
         out.extend((n as u16).to_le_bytes());
     }
@@ -109,7 +152,7 @@ fn question(q: &Question<'_>) -> Vec<u8> {
 }
 
 fn about<'a>(asked: Asked, case: &'a Case, page: &'a [u8]) -> Question<'a> {
-    Question { asked, case, page, place: 0, room: 4096, bytes: &[] }
+    Question { asked, case, page, place: 0, limit: USUAL, room: 4096, bytes: &[] }
 }
 
 fn crc(bytes: &[u8]) -> String {
@@ -130,6 +173,12 @@ fn refused(number: u8, value: usize) -> Refusal {
 }
 
 const TIES: &str = "ties";
+const PAST: &str = "a directory past 0x300";
+const MOST: &str = "the most slots";
+
+fn made(kind: &'static str, bits: u8, limit: usize, page: Vec<u8>) -> Case {
+    Case { kind, number: 9, page, bits, anchors: Vec::new(), bv: 0, plain: None, replacements: Vec::new(), limit, outside: OUTSIDE[0] }
+}
 
 /// A page of exact sectors, to which come three: all steps tie in 512 and in 496 bytes, and two do. And the page that has them all.
 fn ties() -> [Case; 2] {
@@ -138,13 +187,29 @@ fn ties() -> [Case; 2] {
     recrc(&mut page);
     let two_tie = [vec![0; 256], (0..=255).collect()].concat();
     let replacements = vec![(0, triangular(512)), (3, two_tie), (7, triangular(496))];
-    let exact = Case { kind: TIES, number: 9, page, bits: 7, anchors: Vec::new(), bv: 0, plain: None, replacements };
+    let exact = Case { replacements, ..made(TIES, 7, USUAL, page) };
     let mut tied = Case { replacements: Vec::new(), ..exact.clone() };
     for (sector, bytes) in &exact.replacements {
         tied.page[sector * 512..][..bytes.len()].copy_from_slice(bytes);
     }
     recrc(&mut tied.page);
     [exact, tied]
+}
+
+/// 40 slots behind a prelude at 0x400, which alone speak for the bv, since no sector is exact; and the most slots that a search can find.
+fn wide() -> [Case; 2] {
+    let with_slots = |start: usize, count: usize, fall: usize| {
+        let mut plan = Plan { number: 9, data: vec![0; DATA], steps: [3, 250, 17, 128, 0, 91, 7, 200], bv: 0x5A, trailer: [0; 12], off: 0 };
+        (0..8).for_each(|s| plan.sector(s)[300] = 1);
+        (0..count).for_each(|k| put(&mut plan.data, start + 2 * k, (0xFE0 - fall * k) as u16));
+        plan
+    };
+    let (mut past, most) = (with_slots(0x404, 40, 7), with_slots(0, 1_024, 1));
+    put(&mut past.data, 0x400, 40);
+    past.rows(40);
+    let case =
+        |(kind, plan): (&'static str, Plan)| Case { bv: plan.bv, plain: Some(plan.plain()), ..made(kind, 2, GREATEST, plan.stored()) };
+    [(PAST, past), (MOST, most)].map(case)
 }
 
 /// How many steps tied. Other pages have ties that show nothing new.
@@ -200,23 +265,58 @@ fn whole_page(case: &Case, frozen: &mut Frozen) {
         frozen.take(Question { room, ..about(Asked::Scan, case, page) }, Expected { line, shows: vec![format!("room for {room}")] });
     }
 
-    let answer = reading.decode(&case.anchors, case.bits);
+    let answer = reading.decode(&case.anchors, case.bits, USUAL);
     let shows = decoding_shows(case, &answer);
     frozen.take(about(Asked::Decoding, case, page), Expected { line: decoding_line(&answer, 4096), shows });
-    let answer = Err(refused(2, 4095));
-    let shows = vec![format!("{} of an all-zero page: {}", number(&answer), page.iter().all(|&b| b == 0))];
-    frozen.take(Question { room: 4095, ..about(Asked::Decoding, case, page) }, Expected { line: decoding_line(&answer, 4095), shows });
-
-    let answer = reading.decode_supplied(case.bv, case.bits);
-    let mut shows = decoding_shows(case, &answer);
-    let doubtful = fits.iter().any(|f| !f.exact && (f.peak < 24 || f.peak < f.runner_up + 12));
-    shows.push(format!("{}, a sector in doubt: {doubtful}", number(&answer)));
-    frozen.take(about(Asked::Supplied, case, page), Expected { line: decoding_line(&answer, 4096), shows });
+    let other = reading.decode(&case.anchors, case.bits, case.limit);
+    frozen.take_at_limits(about(Asked::Decoding, case, page), standing(&answer), [&answer, &other], |a| decoding_line(a, 4096));
+    for limit in [USUAL, frozen.next_outside()] {
+        let (answer, class) = (Err(refused(2, 4095)), Class::of(limit));
+        let shows = vec![format!("{} of an all-zero page: {}, {class}", number(&answer), page.iter().all(|&b| b == 0))];
+        let asked = about(Asked::Decoding, case, page);
+        frozen.take(Question { limit, room: 4095, ..asked }, Expected { line: decoding_line(&answer, 4095), shows });
+    }
+    supplied(case, &reading, frozen);
 
     for (sector, bytes) in &case.replacements {
         if bytes.len() <= 600 && *sector < 65536 {
             replacement(case, *sector, bytes, &reading, frozen);
         }
+    }
+}
+
+/// With the case's bv, by its own scan and from a summary.
+fn supplied(case: &Case, reading: &Reading<'_>, frozen: &mut Frozen) {
+    let [answer, other] = [USUAL, case.limit].map(|limit| reading.decode_supplied(case.bv, case.bits, limit));
+    let doubtful = reading.fits().iter().any(|f| !f.exact && (f.peak < 24 || f.peak < f.runner_up + 12));
+    let in_doubt = format!("{}, a sector in doubt: {doubtful}", number(&answer));
+    let shows = decoding_shows(case, &answer).into_iter().chain([in_doubt]).collect();
+    for (asked, shows) in [(Asked::Supplied, shows), (Asked::SuppliedSummary, vec![number(&answer)])] {
+        frozen.take(about(asked, case, &case.page), Expected { line: decoding_line(&answer, 4096), shows });
+        frozen.take_at_limits(about(asked, case, &case.page), standing(&answer), [&answer, &other], |a| decoding_line(a, 4096));
+    }
+}
+
+/// What a limit out of range is refused before.
+fn standing(usual: &Result<Decoded, Refusal>) -> &'static str {
+    match usual {
+        Ok(d) if d.bv.is_none() => "an unallocated page",
+        Ok(_) => "an accepted page",
+        Err(Refusal { number: 3, .. }) => "a bad CRC",
+        Err(Refusal { number: 4, .. }) => "a bad trailer",
+        Err(_) => "a refused page",
+    }
+}
+
+/// That a limit out of range is refused; that another decides whether a page is accepted; all that the wide pages have.
+fn limit_shows<T>(case: &Case, limit: usize, standing: &str, usual: &Result<T, Refusal>, answer: &Result<T, Refusal>) -> Option<String> {
+    let class = Class::of(limit);
+    let decides = usual.is_ok() != answer.is_ok();
+    match class {
+        Class::Outside => Some(format!("{} for {standing}", number(answer))),
+        _ if [PAST, MOST].contains(&case.kind) => Some(case.kind.into()),
+        _ if decides => Some(format!("accepted {}, {class}", answer.is_ok())),
+        _ => None,
     }
 }
 
@@ -260,14 +360,15 @@ fn replacement(case: &Case, sector: usize, bytes: &[u8], before: &Reading<'_>, f
         page[sector * 512..][..bytes.len()].copy_from_slice(bytes);
     }
     let after = Reading::new(case.number, &page).expect("its length is right");
-    let (shown, refusal) = if fitting { (&after, None) } else { (before, Some(refused(14, sector))) };
-    let decoded = after.decode(&case.anchors, case.bits);
-    let line =
-        hex(&layouts::fits(refusal.as_ref(), &shown.fits())) + &crc(&page) + &crc(&shown.shifted()) + " " + &decoding_line(&decoded, 4096);
-    let mut shows = vec![format!("fitting {fitting} sector {sector}"), number(&decoded)];
-    shows.extend(tied(case, &shown.fits()));
-    let asked = about(Asked::Replacement, case, &case.page);
-    frozen.take(Question { place: sector, bytes, room: 4080, ..asked }, Expected { line, shows });
+    let (fits, shifted, refusal) =
+        if fitting { (after.fits(), after.shifted(), None) } else { (before.fits(), before.shifted(), Some(refused(14, sector))) };
+    let [usual, other] = [USUAL, case.limit].map(|limit| after.decode(&case.anchors, case.bits, limit));
+    let before = hex(&layouts::fits(refusal.as_ref(), &fits)) + &crc(&page) + &crc(&shifted) + " ";
+    let line = |decoded: &Result<Decoded, Refusal>| before.clone() + &decoding_line(decoded, 4096);
+    let shows = [format!("fitting {fitting} sector {sector}"), number(&usual)].into_iter().chain(tied(case, &fits)).collect();
+    let question = Question { place: sector, bytes, room: 4080, ..about(Asked::Replacement, case, &case.page) };
+    frozen.take(question, Expected { line: line(&usual), shows });
+    frozen.take_at_limits(question, standing(&usual), [&usual, &other], line);
 }
 
 /// The parse and the rows of a plain page, the last row and the one behind it.
@@ -275,7 +376,7 @@ fn rows(case: &Case, plain: &[u8], frozen: &mut Frozen) {
     if plain.len() > 4096 + 1 {
         return;
     }
-    let parsed = oracle::parse(case.number, plain, case.bits);
+    let parsed = oracle::parse(case.number, plain, case.bits, USUAL);
     let expected = |line: Vec<u8>| Expected { line: hex(&line), shows: parse_shows(&parsed) };
     frozen.take(about(Asked::Parse, case, plain), expected(layouts::parse(&parsed)));
     let count = parsed.as_ref().map_or(0, |p| p.rows.len());
@@ -288,6 +389,14 @@ fn rows(case: &Case, plain: &[u8], frozen: &mut Frozen) {
         let asked = about(Asked::Row, case, plain);
         frozen.take(Question { place: row, ..asked }, Expected { line: hex(&layouts::row(&parsed, row)), shows });
     }
+    let other = oracle::parse(case.number, plain, case.bits, case.limit);
+    let (standing, last) = (if parsed.is_ok() { "an accepted page" } else { "a refused page" }, if case.kind == MOST { 1_023 } else { 0 });
+    let answers = [&parsed, &other];
+    frozen.take_at_limits(about(Asked::Parse, case, plain), standing, answers, |p| hex(&layouts::parse(p)));
+    frozen.take_at_limits(about(Asked::RowCount, case, plain), standing, answers, |p| hex(&layouts::row_count(p)));
+    frozen.take_at_limits(about(Asked::Rows, case, plain), standing, answers, |p| hex(&layouts::rows(p)));
+    let asked = Question { place: last, ..about(Asked::Row, case, plain) };
+    frozen.take_at_limits(asked, standing, answers, |p| hex(&layouts::row(p, last)));
 }
 
 fn parse_shows(parsed: &Result<Parsed, Refusal>) -> Vec<String> {

@@ -1,6 +1,7 @@
 //! known > crates/known_directories/stdout: the lines that `known_directories` must print, by the original, from the same pages.
 use std::fmt::Write;
 
+use compare::limits::{self, USUAL};
 use compare::plan::put;
 use oracle::{Parsed, Refusal};
 
@@ -9,24 +10,37 @@ type Known = (&'static str, u8, Vec<(usize, u16)>);
 
 fn main() {
     for (name, n, pairs) in pages() {
-        let mut page = vec![0; 4096];
-        page[0xFF0] = n;
-        pairs.iter().for_each(|&(at, value)| put(&mut page, at, value));
+        let page = page(n, &pairs);
         both(name, &page);
-        let matches = |t| yes(n >= t && oracle::row_count_matches(&page));
+        let matches = |t| matches(&page, USUAL, t);
         match name {
             "four rows" => println!("row count at T 5 and 6 {} {}\nits records{}", matches(5), matches(6), records(&page)),
             "earliest scan, counted" => println!("row count at T 4 {}", matches(4)),
             _ => {}
         }
     }
+    at_other_limits();
+    both("empty", &[0; 4096]);
     both("short", &[0; 4095]);
 }
 
-fn pages() -> [Known; 18] {
-    let one = |at: usize, value: u16| vec![(at, value)];
-    // Slots at page offsets high * 256, (high - 1) * 256 and so on.
-    let fall = |at: usize, high: u16, count: u16| (0..count).map(|k| (at + 2 * k as usize, (high - k) << 8)).collect::<Vec<_>>();
+fn page(n: u8, pairs: &[(usize, u16)]) -> Vec<u8> {
+    let mut page = vec![0; 4096];
+    page[0xFF0] = n;
+    pairs.iter().for_each(|&(at, value)| put(&mut page, at, value));
+    page
+}
+
+fn one(at: usize, value: u16) -> Vec<(usize, u16)> {
+    vec![(at, value)]
+}
+
+/// Slots at page offsets high * 256, (high - 1) * 256 and so on.
+fn fall(at: usize, high: u16, count: u16) -> Vec<(usize, u16)> {
+    (0..count).map(|k| (at + 2 * k as usize, (high - k) << 8)).collect()
+}
+
+fn pages() -> [Known; 17] {
     // Four slots that are as good a directory a byte before.
     let odd = |at: usize| [0xE0F, 0xC0D, 0xA0B, 0x809].into_iter().enumerate().map(|(k, value)| (at + 2 * k, value)).collect::<Vec<_>>();
     [
@@ -51,15 +65,33 @@ fn pages() -> [Known; 18] {
         ("scanned, offsets inside", 0, [fall(0x50, 0xF, 4), one(0x58, 0x5A), one(0x5A, 0x52)].concat()),
         ("earliest scan", 0, odd(0x02)),
         ("earliest scan, counted", 4, [one(0x20, 4), one(0x22, 0x107), odd(0x26)].concat()),
-        ("empty", 0, vec![]),
     ]
 }
 
-/// Strictly, and with DIRECTORY.
-fn both(name: &str, plain: &[u8]) {
-    for bits in [0, 2] {
-        println!("{name}{}", oracle::parse(7, plain, bits).map_or_else(refused, parsed));
+/// The first field past 768, and slots that end at 782.
+fn at_other_limits() {
+    let page = page(5, &[one(0x300, 5), fall(0x304, 0xF, 3), one(0x30C, 0xC00)].concat());
+    for (limit, name) in [(768, "768"), (769, "769"), (2_049, "2,049")] {
+        both_at(limit, &format!("field 0x300 at {name}"), &page);
     }
+    let [a, b, c] = [781, 782, 2_049].map(|limit| matches(&page, limit, 5));
+    println!("row count at 781, 782 and 2,049 {a} {b} {c}");
+}
+
+fn both(name: &str, plain: &[u8]) {
+    both_at(USUAL, name, plain);
+}
+
+/// Strictly, and with DIRECTORY.
+fn both_at(limit: usize, name: &str, plain: &[u8]) {
+    for bits in [0, 2] {
+        println!("{name}{}", limits::parsed(7, plain, bits, limit).map_or_else(refused, parsed));
+    }
+}
+
+/// Whether the row count stands before the directory, at a T, which is 4 in the original; no at a limit out of range.
+fn matches(plain: &[u8], limit: usize, t: u8) -> &'static str {
+    yes(limits::refusal(limit).is_none() && plain[0xFF0] >= t && oracle::row_count_matches(plain, limit))
 }
 
 fn yes(b: bool) -> &'static str {
@@ -68,7 +100,7 @@ fn yes(b: bool) -> &'static str {
 
 /// Offset, length and exact mark of each row.
 fn records(plain: &[u8]) -> String {
-    let rows = oracle::parse(7, plain, 0).map_or(Vec::new(), |p| p.rows);
+    let rows = oracle::parse(7, plain, 0, USUAL).map_or(Vec::new(), |p| p.rows);
     rows.iter().map(|r| format!(" {} {} {}", r.offset, r.bytes.len(), yes(r.exact))).collect()
 }
 

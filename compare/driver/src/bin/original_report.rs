@@ -1,29 +1,63 @@
 //! original_report: what `report` does, by the original, but for the number of steps that tied: a fit has 6 bytes. `bench` times the one beside
-//! the other.
+//! the other. It takes no search limit but the original's own, and ends at a frame that has another.
 use std::io::{self, BufRead, BufReader, BufWriter, Write};
+use std::process::ExitCode;
+
+use oracle::SEARCH_LIMIT;
 
 /// Characters in a block, as in `report`.
 const BLOCK: usize = 65_536;
 
-fn main() -> io::Result<()> {
+fn main() -> ExitCode {
+    match answers() {
+        Ok(()) => ExitCode::SUCCESS,
+        Err(e) => {
+            eprintln!("original_report: {e}");
+            ExitCode::FAILURE
+        }
+    }
+}
+
+/// The answers to all lines.
+fn answers() -> io::Result<()> {
     let mut input = BufReader::with_capacity(BLOCK, io::stdin());
     let mut output = BufWriter::with_capacity(BLOCK, io::stdout());
     let mut line = Vec::new();
     while input.read_until(b'\n', &mut line)? > 0 {
-        let frame = bytes(line.strip_suffix(b"\n").unwrap_or(&line));
-        let answer = frame.as_deref().and_then(answer).unwrap_or_else(|| vec![0x11]);
+        let bytes = bytes(line.strip_suffix(b"\n").unwrap_or(&line));
+        let frame = bytes.as_deref().and_then(frame);
+        let answer = frame.map_or(Ok(vec![0x11]), |f| answer(&f))?;
         output.write_all(&digits(&answer))?;
         line.clear();
     }
     output.flush()
 }
 
-/// None if it is no frame. The original has the row-count test from 4 on, whatever the frame says.
-fn answer(frame: &[u8]) -> Option<Vec<u8>> {
-    let (number, rest) = frame.split_first_chunk()?;
-    let (&[bits, _, n], rest) = rest.split_first_chunk()?;
+struct Frame<'a> {
+    number: u64,
+    bits: u8,
+    limit: u16,
+    anchors: &'a [u8],
+    page: &'a [u8],
+}
+
+/// None if it is no frame. The original has the row-count test from 4 on, whatever T the frame has.
+fn frame(bytes: &[u8]) -> Option<Frame<'_>> {
+    let (&number, rest) = bytes.split_first_chunk()?;
+    let (&[bits, _, high, low, n], rest) = rest.split_first_chunk()?;
     let (anchors, page) = rest.split_at_checked(n as usize)?;
-    (page.len() == 4096).then(|| oracle::timed::report(u64::from_be_bytes(*number), page, anchors, bits))
+    let (number, limit) = (u64::from_be_bytes(number), u16::from_be_bytes([high, low]));
+    (page.len() == 4096).then_some(Frame { number, bits, limit, anchors, page })
+}
+
+fn answer(f: &Frame<'_>) -> io::Result<Vec<u8>> {
+    if f.limit as usize != SEARCH_LIMIT {
+        let Frame { number, limit, .. } = f;
+        return Err(io::Error::other(format!(
+            "page {number} asks for the search limit {limit}: the original has {SEARCH_LIMIT} and no other"
+        )));
+    }
+    Ok(oracle::timed::report(f.number, f.page, f.anchors, f.bits))
 }
 
 /// None if there is an odd number, or something else than digits.
