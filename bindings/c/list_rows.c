@@ -56,7 +56,13 @@ int main(int argc, char **argv) {
         return EXIT_FAILURE;
     }
     uint8_t leniency = argc > 2 ? (uint8_t)atoi(argv[2]) : LUMEVIQO_STRICT;
-    size_t limit = argc > 3 ? strtoull(argv[3], NULL, 10) : LUMEVIQO_SEARCH_LIMIT;
+    char *end = "";
+    size_t limit = argc > 3 ? strtoull(argv[3], &end, 10) : LUMEVIQO_SEARCH_LIMIT;
+    if (*end != '\0') {
+        fprintf(stderr, "LIMIT is a number from %d to %d, usually %d\n", LUMEVIQO_LEAST_SEARCH_LIMIT, LUMEVIQO_GREATEST_SEARCH_LIMIT,
+                LUMEVIQO_SEARCH_LIMIT);
+        return EXIT_FAILURE;
+    }
     FILE *file = fopen(argv[1], "rb");
     if (file == NULL) {
         perror(argv[1]);

@@ -721,7 +721,7 @@ static void write_directory(size_t count) {
     }
     for (size_t k = 0; k < slots; k++, at += LUMEVIQO_SLOT_LENGTH) {
         bool deleted = k > 0 && one_in(8);
-        size_t fall = one_in(200) ? 0 : 1 + below((DATA - LIMIT) / (slots + 1));
+        size_t fall = one_in(most ? 8 * slots : 200) ? 0 : 1 + below((DATA - LIMIT) / (slots + 1));
         offset = deleted || offset <= fall ? offset : offset - fall;
         put_u16(subject.plain + at, deleted ? 0 : offset);
     }

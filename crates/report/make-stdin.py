@@ -1,8 +1,8 @@
 #!/usr/bin/env python3
 """Writes `stdin` and `stdout` of `report`, `report_empty` and `report_blocks`: lines for the program, and what document 01 answers to them.
 
-The answers come from the model below, which follows document 01 sentence by sentence, with document 02's #106 and #109, and shares nothing with the crates. It is slow and plain:
-256 histograms for each sector. CRC-32 is zlib's.
+The answers come from the model below, which follows document 01 sentence by sentence, with document 02's #106 and #109, and shares nothing
+with the crates. It is slow and plain: 256 histograms for each sector. CRC-32 is zlib's.
 """
 import os
 import random

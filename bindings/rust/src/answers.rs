@@ -136,7 +136,7 @@ impl fmt::Display for Refusal {
                 write!(f, "page {page}: bv may be any of {candidates:02x?}: lend its block's anchors, or allow KEYSTREAM")
             }
             Refusal::KeystreamUnverified { page, bv } => {
-                write!(f, "page {page}: nothing confirms bv {bv:02x}: lend its block's anchors, or allow KEYSTREAM")
+                write!(f, "page {page}: nothing confirms bv {bv:02x}: lend its block's anchors, raise the search limit, or allow KEYSTREAM")
             }
             Refusal::LowConfidenceKeystream { page, sector, peak, runner_up } => write!(
                 f,
@@ -150,7 +150,9 @@ impl fmt::Display for Refusal {
                 };
                 write!(f, "page {page}: no slot directory, {why}: allow DIRECTORY to read it")
             }
-            Refusal::UnknownPrelude { page } => write!(f, "page {page}: no prelude has its row count: allow DIRECTORY to read it"),
+            Refusal::UnknownPrelude { page } => {
+                write!(f, "page {page}: no prelude has its row count: raise the search limit, or allow DIRECTORY to read it")
+            }
             Refusal::SlotDirectoryTruncated { page, found, expected, stop } => {
                 write!(f, "page {page}: {found} slots of {expected}, up to offset {stop}: allow DIRECTORY to read those")
             }
@@ -170,7 +172,7 @@ impl fmt::Display for Refusal {
             Refusal::LimitOutOfRange(limit) => write!(
                 f,
                 "a search limit is {LEAST_SEARCH_LIMIT} to {GREATEST_SEARCH_LIMIT}, and {limit} was asked for: take the usual {SEARCH_LIMIT}, \
-                 or a greater one where a directory lies further on"
+                 or up to {GREATEST_SEARCH_LIMIT} where a directory lies further on"
             ),
         }
     }

@@ -389,9 +389,10 @@ fn replacements(case: &Case, own: Summary, tally: &mut Tally) -> Checked {
     // The summary, and what is read from it, are what a fresh reading of the final page gives.
     let reading = Reading::new(n, &page).expect("its length is as it was");
     same(tally, Question::Replacement, Ok(summary.clone()), &Summary::of(&reading))?;
-    for bits in [7, 4] {
-        let (options, expected) = (Options { bits, limit: USUAL }, reading.decode(&case.anchors, bits, USUAL));
-        from_summary(tally, Question::SummaryDecoding, case, &page, &summary, &case.anchors, options, &expected)?;
+    for (bits, limit) in [(7, USUAL), (4, USUAL), (7, case.limit), (4, case.limit)] {
+        let (options, expected) = (Options { bits, limit }, reading.decode(&case.anchors, bits, limit));
+        from_summary(tally, Question::SummaryDecoding, case, &page, &summary, &case.anchors, options, &expected)
+            .map_err(|d| d.asked_at(limit))?;
     }
     Ok(())
 }

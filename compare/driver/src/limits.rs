@@ -7,9 +7,10 @@ use oracle::plain::{Parsed, Refusal};
 use crate::random::Random;
 
 /// The original's, which is asked for most.
-pub const USUAL: usize = h::SEARCH_LIMIT;
-pub const LEAST: usize = h::LEAST_SEARCH_LIMIT;
-pub const GREATEST: usize = h::GREATEST_SEARCH_LIMIT;
+pub const USUAL: usize = oracle::SEARCH_LIMIT;
+/// Document 02's range, whatever the header says.
+pub const LEAST: usize = 8;
+pub const GREATEST: usize = 2_048;
 
 /// About the ends of the range and about the usual one, and one between.
 pub const NAMED: [usize; 8] = [LEAST, 9, 10, 767, 769, 1_024, 2_047, GREATEST];
@@ -59,7 +60,7 @@ impl Class {
         }
     }
 
-    /// Whether a full run must reach an answer at such a limit. Wrong lengths are tried at the usual one and outside.
+    /// Whether a full run must reach an answer at such a limit. Decodings have wrong lengths at the usual one and outside alone.
     pub fn must_reach(self, answer: u8) -> bool {
         let (of_lengths, of_limit) =
             (matches!(answer as usize, h::WRONG_PAGE_LENGTH | h::WRONG_BUFFER_LENGTH), answer as usize == h::LIMIT_OUT_OF_RANGE);

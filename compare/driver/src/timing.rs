@@ -51,7 +51,7 @@ pub fn table(groups: &[Group<'_>]) -> (String, Vec<String>) {
     let mut lines: Vec<Line> = groups.iter().flat_map(|g| g.ratios.iter().map(|r| g.line(r))).collect();
     let questions: Vec<&str> = lines.iter().map(|l| l.question).collect();
     lines.sort_by_key(|l| questions.iter().position(|&q| q == l.question));
-    let head = ["| question | pages | of the original's time | quartiles | limit | original, a page |", "|---|---|---|---|---|---|"];
+    let head = ["| question | pages | ratio | quartiles | limit | the other side, a page |", "|---|---|---|---|---|---|"];
     let text: Vec<&str> = head.into_iter().chain(lines.iter().map(|l| &l.text[..])).collect();
     let over = lines.iter().filter(|l| l.over).map(|l| format!("{} ({})", l.question, l.pages)).collect();
     (text.join("\n"), over)
@@ -64,7 +64,7 @@ impl<'a> Group<'a> {
         self.sides.len() - 1
     }
 
-    /// Asks for a line: the time a page of side `reader`, of that of side `original`.
+    /// Asks for a line: the time a page of side `reader`, of that of side `original`, or of another that the question names.
     pub fn ratio(&mut self, question: &'static str, pages: &'static str, reader: usize, original: usize, limit: Option<f64>) {
         self.ratios.push(Ratio { question, pages, reader, original, limit });
     }

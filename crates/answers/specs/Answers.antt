@@ -1,4 +1,4 @@
--- Document 01, "Answer numbers": the number and the values of each answer. Assumes nothing.
+-- Document 01, "Answer numbers", and 20 of request #109: the number and the values of each answer. Assumes nothing.
 use Prim.Native.Nat.{ℕ, _+_}
 use mathlib.Core.Bool.{Bool}
 use mathlib.Core.List.{List, [], _∷_}

@@ -1,4 +1,4 @@
-// The answers, each with its number and the values of document 01's table.
+// The answers, each with its number and values: document 01's table, and 20 of request #109.
 ghost use mathlib.Core.Path.{_≡_};
 ghost use Rattle.answers.specs.Values.{placed};
 ghost use Rattle.answers.specs.Answers.{numberOf, valuesOf, isAccepted, reasonNumber, noBvs, withBv};

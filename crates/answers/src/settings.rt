@@ -42,7 +42,7 @@ impl Leniency {
     }
 }
 
-// The leniency, T, and the search limit: a scan and a prelude's field stay in that many first bytes.
+// The leniency, T, and the search limit: a scan stays in that many first bytes, and a prelude's field begins there.
 pub struct Options {
     pub leniency: Leniency,
     pub min_trailer_count: u8,

@@ -116,8 +116,7 @@ ruleOne number lenient a =
 unfoldable pub chosen : ℕ → Bool → Assessment → Choice
 chosen number lenient a = pick (ltb 8 (a .candidates .len)) (refusedOf (answer.TooManyCandidates number) noBvs) (ruleOne number lenient a)
 
--- the choice for the shifted bytes, of which there must be 4,080; n is the stored row count. Request #109: "20, with the limit, if it is outside
--- the range, after the lengths"
+-- the choice for the shifted bytes, of which there must be 4,080, at a search limit in its range; n is the stored row count
 unfoldable pub choiceOf : ℕ → List ℕ → List ℕ → ℕ → Options → Choice
 choiceOf number shifted anchors n o =
     pick (eqb (length shifted) 4080)

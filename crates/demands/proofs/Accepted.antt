@@ -97,7 +97,7 @@ module _
     (o : Options)
     (bv : ℕ)
     (sound : GoodPage number stored)
-    (fits : limitFits (o .«search_limit») ≡ true)
+    (within : limitFits (o .«search_limit») ≡ true)
   where
     abbrev shifted : List ℕ
     shifted = bytesOf number stored
@@ -127,14 +127,14 @@ module _
         let long : length shifted ≡ 4080 = summary-length number stored (sound .whole) in
         let small : bv < 256 = subst (λ (v : ℕ). v < 256) (one .at 0 (omega arith)) (summary-bytes number stored (sound .whole) .at 0 (omega arith)) in
         let r =
-        choice-means .all-exact number shifted anchors o bv long fits small
+        choice-means .all-exact number shifted anchors o bv long within small
         (λ s h. (exact-at number stored bv (sound .whole) one s h, one .at (s * 512) (omega arith))) in
         let same : choiceOf number shifted anchors 0 o ≡ c = ap (λ (n : ℕ). choiceOf number shifted anchors n o) (sym none) in
         let m : Marked c answer.Accepted source.ExactSectors confidence.Calibrated warning.Nothing =
         subst (λ (x : Choice). Marked x answer.Accepted source.ExactSectors confidence.Calibrated warning.Nothing) same (r .0 .marked) in
         let v : c .bv ≡ bv = ap (λ (x : Choice). x .bv) (sym same) ∙ r .1 in
         accepted source.ExactSectors confidence.Calibrated noWarnings
-        (page-sure number stored anchors o sound fits (good source.ExactSectors confidence.Calibrated m) (m .warned)
+        (page-sure number stored anchors o sound within (good source.ExactSectors confidence.Calibrated m) (m .warned)
         (confident number stored bv (sound .whole) one))
         m v
 
@@ -142,7 +142,7 @@ module _
       taken : ByRowCount number shifted anchors (rowCount stored) o c × (c .bv ≡ bv)
       taken =
           choice-means .made number shifted anchors (rowCount stored) o .row-count
-          (record { long = summary-length number stored (sound .whole); within = fits; bytes = summary-bytes number stored (sound .whole); few = few }) bv sole
+          (record { long = summary-length number stored (sound .whole); within = within; bytes = summary-bytes number stored (sound .whole); few = few }) bv sole
 
       marked : Marked c answer.Accepted source.TrailerRowCount confidence.Verified warning.Nothing
       marked = taken .0 .marked
@@ -150,20 +150,20 @@ module _
       read-verified : Confident (fitsOf number stored) → ReadAs d bv source.TrailerRowCount confidence.Verified noWarnings
       read-verified sure =
           accepted source.TrailerRowCount confidence.Verified noWarnings
-          (page-sure number stored anchors o sound fits (good source.TrailerRowCount confidence.Verified marked) (marked .warned) sure) marked (taken .1)
+          (page-sure number stored anchors o sound within (good source.TrailerRowCount confidence.Verified marked) (marked .warned) sure) marked (taken .1)
 
       read-let-through :
           keystream o ≡ true
           → ReadAs d bv source.TrailerRowCount confidence.Verified (sectorWarnings number (fitsOf number stored) noWarnings 8)
       read-let-through l =
           accepted source.TrailerRowCount confidence.Verified (sectorWarnings number (fitsOf number stored) noWarnings 8)
-          (page-lenient number stored anchors o sound fits (good source.TrailerRowCount confidence.Verified marked) (marked .warned) l) marked (taken .1)
+          (page-lenient number stored anchors o sound within (good source.TrailerRowCount confidence.Verified marked) (marked .warned) l) marked (taken .1)
 
 pub accepts : Accepts
 accepts =
     record {
       keyed = one-value;
       exact = read-exact;
-      verified = λ number stored anchors o bv sound fits sure few sole. read-verified number stored anchors o bv sound fits few sole sure;
-      let-through = λ number stored anchors o bv sound fits l few sole. read-let-through number stored anchors o bv sound fits few sole l;
+      verified = λ number stored anchors o bv sound within sure few sole. read-verified number stored anchors o bv sound within few sole sure;
+      let-through = λ number stored anchors o bv sound within l few sole. read-let-through number stored anchors o bv sound within few sole l;
     }

@@ -27,14 +27,14 @@ use Rattle.demands.proofs.AnswerLines.{Gives}
 use Rattle.demands.proofs.Demand1.{decoding-gives}
 
 module _ (line : List ℕ) where
-  page-whole : isFrame line ≡ true → length (pageIn line) ≡ 4096
+  pub page-whole : isFrame line ≡ true → length (pageIn line) ≡ 4096
   page-whole e =
       let n : ℕ = headSize + anchorCount line in
       length-take-le 4096 (drop n (spelled line)) (omega (arith, length-drop n (spelled line), frame-bytes line e))
 
-  decoding-in : isFrame line ≡ true → Gives (frameLines (limitIn line) (numberIn line) (pageIn line)) (decodingIn line)
+  frame-gives : isFrame line ≡ true → Gives (frameLines (limitIn line) (numberIn line) (pageIn line)) (decodingIn line)
   unfolding decodingIn valuesAt
-  decoding-in e =
+  frame-gives e =
       let page : length (pageIn line) ≡ 4096 = page-whole e in
       let long : length (bytesOf (numberIn line) (pageIn line)) ≡ 4080 = summary-length (numberIn line) (pageIn line) page in
       decoding-gives (numberIn line) (pageIn line) (fitsOf (numberIn line) (pageIn line)) (bytesOf (numberIn line) (pageIn line)) _ _ 4096
@@ -45,7 +45,7 @@ module _ (line : List ℕ) where
   unfolding answerTo valuesAt
   answer-one =
       pick-case (OneOf (frameLines (limitIn line) (numberIn line) (pageIn line))) (isFrame line) (decodingIn line .choice .answer) MalformedLine
-      (λ e. record { is = decoding-in e .is }) (λ e. record { is = refl })
+      (λ e. record { is = frame-gives e .is }) (λ e. record { is = refl })
 
   abbrev given : Bool → Answer
   given b = pick b (decodingIn line .choice .answer) MalformedLine

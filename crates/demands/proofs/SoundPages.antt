@@ -59,14 +59,14 @@ module _ (number : ℕ) (fits : List Fit) (sure : Confident fits) where
 
 -- ---- the page
 
-module _ (number : ℕ) (stored anchors : List ℕ) (o : Options) (sound : GoodPage number stored) (fits : limitFits (o .«search_limit») ≡ true) where
+module _ (number : ℕ) (stored anchors : List ℕ) (o : Options) (sound : GoodPage number stored) (within : limitFits (o .«search_limit») ≡ true) where
   abbrev c : Choice
   c = choiceOf number (bytesOf number stored) anchors (rowCount stored) o
 
   entry-passes : isAccepted (entryAnswer (length stored) 4096 (length (bytesOf number stored)) (o .«search_limit»)) ≡ true
   unfolding entryAnswer
   entry-passes =
-      rw (eq-eqb (length stored) 4096 (sound .whole), eq-eqb (length (bytesOf number stored)) 4080 (summary-length number stored (sound .whole)), fits)
+      rw (eq-eqb (length stored) 4096 (sound .whole), eq-eqb (length (bytesOf number stored)) 4080 (summary-length number stored (sound .whole)), within)
 
   not-refused : (x : Answer) → isAccepted x ≡ true → integrityRefuses x o ≡ false
   not-refused x e = rw e

@@ -62,7 +62,7 @@ pub record Keyed (number : ℕ) (stored : List ℕ) (bv : ℕ) : Type 0 where
 pub record Accepts : Type 0 where
   -- the scan finds the bv that such a page was written with
   pub keyed : (number : ℕ) (stored : List ℕ) (bv : ℕ) → length stored ≡ 4096 → Keyed number stored bv → OneValue number stored bv
-  -- eight exact sectors with one value, and row count 0: calibrated, whatever the anchors and the options, at every search limit that is one
+  -- eight exact sectors with one value, and row count 0: calibrated, whatever the anchors and the options, at every search limit in its range
   pub exact :
       (number : ℕ) (stored anchors : List ℕ) (o : Options) (bv : ℕ)
       → GoodPage number stored

@@ -1,5 +1,5 @@
--- DEMAND 1: every input gets one of the answers. For each public entry that answers: the lines of document 01's table that its answer can have, and what a
--- refusal leaves: blanks beside the answer (but the lent fits beside a refused replacement, and the candidates beside 5), no warnings, and every lent buffer
+-- DEMAND 1: every input gets one of the answers. For each public entry that answers: the lines of the table of answers that its answer can have, and what
+-- a refusal leaves: blanks beside the answer (but the lent fits beside a refused replacement, and the candidates beside 5), no warnings, and every lent buffer
 -- as it was. That an entry gives one outcome alone is SingleOutcome's.
 -- Assumes nothing.
 use Prim.Native.Nat.{ℕ, _<_}

@@ -1,4 +1,4 @@
--- What an answer tells: document 01's table of answers, for each entry the lines that it can give. Assumes nothing.
+-- What an answer tells: the table of answers, for each entry the lines that it can give. Assumes nothing.
 use Prim.Native.Nat.{ℕ, _+_, _*_}
 use mathlib.Core.Path.{_≡_}
 use mathlib.Core.Bool.{Bool, false, _&&_}
@@ -58,7 +58,7 @@ scanLines n m = 0 returns [] ∷ 1 returns (n ∷ []) ∷ 2 returns (m ∷ []) �
 abbrev pub replacementLines : ℕ → ℕ → ℕ → List Line
 replacementLines s n m = scanLines n m ++ (14 returns (s ∷ []) ∷ [])
 
--- ---- slots and rows of a plain page, at the search limit lim. "20, with the limit, if it is outside the range"
+-- ---- slots and rows of a plain page, at the search limit lim. "20, with the limit"
 
 -- "8: reason: 1 n from 1 to 3; 2 fewer than 8 live; 3 unconfirmed"
 abbrev pub liveIn : Found → ℕ

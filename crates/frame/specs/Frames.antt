@@ -30,7 +30,7 @@ lineRoom = frameMost + frameMost + 1
 abbrev pub anchorCount : List ℕ → ℕ
 anchorCount line = byteAt (spelled line) 12
 
--- digits alone, two for each of 13 + n + 4,096 bytes: "anything else is line 11". A limit out of range is no other line
+-- digits alone, two for each of 13 + n + 4,096 bytes: "anything else is line 11". Any limit makes a frame
 unfoldable pub isFrame : List ℕ → Bool
 isFrame line = allDigits line && eqb (length line) (2 * (leastFrame + anchorCount line))
 

@@ -1,7 +1,7 @@
 // Document 01's page 1: zero data, type 0x45, a good CRC. Read strictly it is answered 5, with the candidates 248 to 255: each sector is
 // exact and votes for another value. The expected line is the document's. Then a supplied bv with row count 0, at T 0 and at T 1: the original
-// has T 4 alone, so these lines follow from document 01 by hand. So do those of a directory past 0x300, and of a limit out of range: the original
-// has the limit 768 alone.
+// has T 4 alone, so these lines follow from document 01 by hand. So do those of a directory past 0x300, and of a limit out of range, from
+// document 02: the original has the limit 768 alone.
 use answers::Options;
 use choice::Choice;
 use libc::STDOUT_FILENO;

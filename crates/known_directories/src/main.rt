@@ -1,6 +1,6 @@
 // Pages whose answers are known: document 01's page with four rows, one for each of the answers 1, 8 to 12, 16 and 20, and those that settle
 // points of docs/DECISIONS.md, strictly and leniently. What they must give was written down by the original, from the same pages
-// (compare/driver/src/bin/known.rs).
+// (compare/driver/src/bin/known.rs); at 769 by a copy with that limit, and at 2,049 by document 02.
 use answers::Answer;
 use answers::Options;
 use answers::ParseWarnings;
@@ -273,9 +273,10 @@ fn two_or_past_the_limit() {
         b"two preludes",
         b"FF0:4 40:4 44:F00,E00,D00,C00 100:4 106:E00,D00,C00,B00,A00",
     );
+    // A scan would find eight slots.
     known(
         b"two preludes of two",
-        b"FF0:2 40:2 44:F00,E00 100:2 104:E00,D00",
+        b"FF0:2 40:2 44:F00,E00 100:2 104:E00,D00 200:F00,E00,D00,C00,B00,A00,900,800",
     );
 }
 
@@ -299,7 +300,7 @@ fn earliest_scan_counted() {
     text(b"\n");
 }
 
-// The first field past 768, and slots that end at 782.
+// The first field that 768 leaves out, and slots that end at 782.
 fn at_other_limits() {
     let mut page = io::buffer();
     lay(&mut page, b"FF0:5 300:5 304:F00,E00,D00,0,C00");

@@ -19,7 +19,7 @@ use Rattle.sector.specs.declared.fits.Fit.{Fit}
 use Rattle.fields.specs.Fields.{Field, little, layoutBytes}
 use Rattle.parts.specs.Parts.{answerSize, answerFields, fitsSize, fitsFields, bvsSize, bvsFields, groundSize, groundsFields, warningSize, warningsFields}
 
--- "changes with every layout"
+-- it changes with every layout, and with what a function takes
 abbrev pub layoutVersion : ℕ
 layoutVersion = 3
 

@@ -44,7 +44,8 @@ pub extern "C" fn lumeviqo_decode_summary(
     answer: &mut [u8],
 ) -> usize
     ensures { λ r. ⌜ DecodingCall (isLent (now (fits .entry)))
-        (decodedFrom number (now (stored .entry)) (now (fits .entry)) (now (shifted .entry)) (now (anchors .entry)) leniency t limit (length (now (out .entry))))
+        (decodedFrom number (now (stored .entry)) (now (fits .entry)) (now (shifted .entry)) (now (anchors .entry)) leniency t limit
+        (length (now (out .entry))))
         (now (stored .entry)) (now (shifted .entry))
         (now (out .entry)) (now (out .exit)) (now (answer .entry)) (now (answer .exit)) r ⌝ }
 {

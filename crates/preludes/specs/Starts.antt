@@ -12,7 +12,7 @@ use Rattle.preludes.specs.Preludes.{dataEnd, declaredSlots, runOf, whole
 use Rattle.preludes.specs.declared.search.Prelude.{Prelude}
 use Rattle.preludes.specs.declared.search.Prelude.the-variants.{Missing, Truncated, One, Several}
 
--- "a field 0 to 0x2FF whose pair equals the row count n, slots at field + 4, or at field + 6 if the pair at field + 4 is 0"
+-- "a field 0 to 0x2FF whose pair equals the row count n, slots at field + 4, or at field + 6 if the pair at field + 4 is 0", 0x2FF being lim - 1
 pub record Place (lim : ℕ) (plain : List ℕ) (n field gap : ℕ) : Type 0 where
   pub below : field < lim
   pub holds : pairAt plain field ≡ n

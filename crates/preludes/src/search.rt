@@ -126,12 +126,12 @@ fn declared_run(plain: &[u8], n: usize, start: usize) -> Run
     }
 }
 
-// The slots at a position below a limit: an offset, then strictly falling offsets and zeros.
-fn run_at(plain: &[u8], limit: usize, at: usize) -> Run
-    requires { ⌜ (limit ≤ length (now plain)) × (limit ≤ 4096) × (at < 65536) ⌝ }
-    ensures { λ r. ⌜ r ≡ runOf (slotsAt limit (now (plain .entry)) at) ⌝ }
+// The slots at a position before an end: an offset, then strictly falling offsets and zeros.
+fn run_at(plain: &[u8], end: usize, at: usize) -> Run
+    requires { ⌜ (end ≤ length (now plain)) × (end ≤ 4096) × (at < 65536) ⌝ }
+    ensures { λ r. ⌜ r ≡ runOf (slotsAt end (now (plain .entry)) at) ⌝ }
 {
-    if limit <= at + 1 {
+    if end <= at + 1 {
         return Run { taken: 0, live: 0 };
     }
     let first = pair_at(plain, at);
@@ -142,7 +142,7 @@ fn run_at(plain: &[u8], limit: usize, at: usize) -> Run
     let mut taken: usize = 1;
     let mut live: usize = 1;
     let mut pos = at + 2;
-    while pos + 1 < limit {
+    while pos + 1 < end {
         let w = pair_at(plain, pos);
         if w != 0 {
             if !is_offset(w) {

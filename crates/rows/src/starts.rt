@@ -12,7 +12,8 @@ ghost use Rattle.rows.specs.RowAnswers.{StartsWritten, StartsListed};
 // Where the rows of a plain page start, ascending: each runs to the next one's start, the last to 0xFF0. They are written to `starts`, as many as
 // have room; how many there are is answered beside the parse's answer. A refusal writes nothing.
 pub fn row_starts(number: u64, plain: &[u8], options: Options, starts: &mut [u16]) -> RowsCounted
-    ensures { λ n. ⌜ StartsWritten (options .«search_limit») number (now (plain .entry)) (directory options) (now (starts .entry)) (now (starts .exit)) n ⌝ }
+    ensures { λ n. ⌜ StartsWritten (options .«search_limit») number (now (plain .entry)) (directory options)
+        (now (starts .entry)) (now (starts .exit)) n ⌝ }
 {
     let d = decide(plain, options.search_limit, options.directory());
     let verdict = d.verdict;

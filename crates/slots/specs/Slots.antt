@@ -1,5 +1,5 @@
 -- Document 01, "Slots and rows": slot values, the scan and the row-count test, on the bytes `plain` of a page. `lim` is the search limit, where
--- document 01 has 0x300: starts and fields go from 0 to lim - 1. Any number may be the limit. Assumes nothing.
+-- document 01 has 0x300: starts go from 0 to lim - 1. The scan and the row-count test take any number. Assumes nothing.
 use Prim.Native.Nat.{ℕ, zero, suc, _+_, _-_, _*_}
 use mathlib.Core.List.{List, [], _∷_}
 use mathlib.Core.Bool.{Bool, false, _&&_, _||_}
@@ -16,14 +16,14 @@ use Rattle.slots.specs.declared.scans.Found.the-variants.{Directory, Not
 unfoldable pub isOffset : ℕ → Bool
 isOffset v = leb 0x20 v && ltb v 0xFF0
 
--- the pairs of a list of bytes, one after the other; and those from a position on that lie whole below a limit
+-- the pairs of a list of bytes, one after the other; and those from a position on that lie whole before an end
 unfoldable pub words : List ℕ → List ℕ
 words [] = []
 words (a ∷ []) = []
 words (a ∷ b ∷ l) = (a + 256 * b) ∷ words l
 
 unfoldable pub wordsFrom : ℕ → List ℕ → ℕ → List ℕ
-wordsFrom lim plain at = words (drop at (take lim plain))
+wordsFrom end plain at = words (drop at (take end plain))
 
 -- strictly falling offsets below prev, and zeros among them
 unfoldable pub falling : ℕ → List ℕ → List ℕ
@@ -35,9 +35,9 @@ unfoldable pub opening : List ℕ → List ℕ
 opening [] = []
 opening (w ∷ ws) = pick (isOffset w) (w ∷ falling w ws) []
 
--- the slots at a position, below a limit
+-- the slots at a position, before an end
 unfoldable pub slotsAt : ℕ → List ℕ → ℕ → List ℕ
-slotsAt lim plain at = opening (wordsFrom lim plain at)
+slotsAt end plain at = opening (wordsFrom end plain at)
 
 -- "drop trailing zeros"
 unfoldable pub ontoTrimmed : ℕ → List ℕ → List ℕ

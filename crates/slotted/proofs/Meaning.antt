@@ -42,7 +42,7 @@ three-warnings lim number plain lenient =
 
 -- ---- the tables
 
--- at most 1,024 slots are listed of a page of bytes, at every limit: a prelude declares at most 255, and a limit that fits has 1,024 pairs below it
+-- at most 1,024 slots are listed of a page of bytes, at every limit: a prelude declares at most 255, and a limit that fits has at most 1,024 pairs below it
 pub listed-few : (lim : ℕ) (plain : List ℕ) (lenient : Bool) → byteAt plain 0xFF0 < 256 → decisionOf lim plain lenient .listed .count ≤ 1024
 listed-few lim plain lenient b =
     decided-holds lim plain (λ start count. count ≤ 1024) (omega arith) lenient

@@ -162,9 +162,9 @@ fn directory(search_limit: usize) -> Options {
 fn at_greatest(pages: &Pages, limit: Option<f64>) -> Group<'_> {
     let p = &pages.plain;
     let mut g = Group::default();
-    let [greatest, usual] = [GREATEST, USUAL].map(|limit| {
-        let parse = each(&mut g, move |k| drop(black_box(lumeviqo::parse(k as u64, &p[k], directory(limit)))));
-        let rows = each(&mut g, move |k| drop(black_box(lumeviqo::rows(k as u64, &p[k], directory(limit)))));
+    let [greatest, usual] = [GREATEST, USUAL].map(|searched| {
+        let parse = each(&mut g, move |k| drop(black_box(lumeviqo::parse(k as u64, &p[k], directory(searched)))));
+        let rows = each(&mut g, move |k| drop(black_box(lumeviqo::rows(k as u64, &p[k], directory(searched)))));
         [parse, rows]
     });
     g.ratio("parse at 2,048, DIRECTORY, of its own time at 768", pages.name, greatest[0], usual[0], limit);
@@ -178,7 +178,7 @@ fn parse_at_greatest(pages: &Pages) -> Group<'_> {
     let mut g = Group::default();
     let reader = each(&mut g, |k| drop(black_box(lumeviqo::parse(k as u64, &p[k], directory(GREATEST)))));
     let original = each(&mut g, |k| timed::parse_at(GREATEST, k as u64, &p[k], Leniency::DIRECTORY.0));
-    g.ratio("parse at 2,048, DIRECTORY, of the original's with its limit changed", pages.name, reader, original, None);
+    g.ratio("parse at 2,048, DIRECTORY, of the original's with its limit changed", pages.name, reader, original, Some(1.0));
     g
 }
 

@@ -87,8 +87,7 @@ impl Frozen {
         let outside = self.next_outside();
         let refused = limits::refusal(outside).filter(|_| q.page.len() == 4096).map_or_else(|| usual.clone(), Err);
         for (limit, answer) in [(q.case.limit, other), (outside, &refused)] {
-            let shown = limit_shows(q.case, limit, standing, usual, answer).filter(|s| !self.shown.contains(&shown_by(q, s)));
-            if let Some(shown) = shown {
+            if let Some(shown) = limit_shows(q.case, limit, standing, usual, answer) {
                 self.take(Question { limit, ..q }, Expected { line: line(answer), shows: vec![shown] });
             }
         }
@@ -196,7 +195,8 @@ fn ties() -> [Case; 2] {
     [exact, tied]
 }
 
-/// 40 slots behind a prelude at 0x400, which alone speak for the bv, since no sector is exact; and the most slots that a search can find.
+/// 40 slots behind a prelude at 0x400, which alone speak for the bv, since no sector is exact; and the most slots that a search can find. A sector of
+/// each is replaced by the bytes that it has.
 fn wide() -> [Case; 2] {
     let with_slots = |start: usize, count: usize, fall: usize| {
         let mut plan = Plan { number: 9, data: vec![0; DATA], steps: [3, 250, 17, 128, 0, 91, 7, 200], bv: 0x5A, trailer: [0; 12], off: 0 };
@@ -207,8 +207,11 @@ fn wide() -> [Case; 2] {
     let (mut past, most) = (with_slots(0x404, 40, 7), with_slots(0, 1_024, 1));
     put(&mut past.data, 0x400, 40);
     past.rows(40);
-    let case =
-        |(kind, plan): (&'static str, Plan)| Case { bv: plan.bv, plain: Some(plan.plain()), ..made(kind, 2, GREATEST, plan.stored()) };
+    let case = |(kind, plan): (&'static str, Plan)| {
+        let page = plan.stored();
+        let replacements = vec![(5, page[5 * 512..][..512].to_vec())];
+        Case { bv: plan.bv, plain: Some(plan.plain()), replacements, ..made(kind, 2, GREATEST, page) }
+    };
     [(PAST, past), (MOST, most)].map(case)
 }
 

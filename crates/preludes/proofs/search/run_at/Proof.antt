@@ -9,10 +9,10 @@ use Rattle.preludes.proofs.search.run_at.Statement.{statement}
 use Rattle.preludes.proofs.search.run_at.Tie as tie
 
 abbrev Inv-loop : tie.InvT-loop
-Inv-loop plain limit at first prev₀ taken₀ live₀ pos₀ prev taken live pos = Going limit plain at prev taken live pos
+Inv-loop plain end at first prev₀ taken₀ live₀ pos₀ prev taken live pos = Going end plain at prev taken live pos
 
 abbrev μ-loop : tie.MeasureT-loop
-μ-loop plain limit at first prev₀ taken₀ live₀ pos₀ prev taken live pos = limit - pos
+μ-loop plain end at first prev₀ taken₀ live₀ pos₀ prev taken live pos = end - pos
 
 returns : tie.Need-returns Inv-loop μ-loop
 returns c = slots-past _ _ _ (c .if1 .taken)
@@ -50,8 +50,8 @@ loop-again c =
     let s = l .before .before .before .before .before .before in
     let a = s .args in
     ⊎-elim
-    (λ k. rw (k .4, k .5) (going-live (a .limit) (a .plain .now) (a .at) (l .loop .prev) (l .loop .taken) (l .loop .live) (l .loop .pos) (w .pair-at2 .result) (l .loop .inv) (s .pre .0) (w .before .loop-test .taken) (w .pair-at2 .ensures .0) (sym (k .1 .ensures) ∙ not-false _ (k .2 .left)) (k .3 .left)))
-    (λ k. rw (k .1, k .2) (going-zero (a .limit) (a .plain .now) (a .at) (l .loop .prev) (l .loop .taken) (l .loop .live) (l .loop .pos) (w .pair-at2 .result) (l .loop .inv) (s .pre .0) (w .before .loop-test .taken) (w .pair-at2 .ensures .0) (k .0 .left)))
+    (λ k. rw (k .4, k .5) (going-live (a .end) (a .plain .now) (a .at) (l .loop .prev) (l .loop .taken) (l .loop .live) (l .loop .pos) (w .pair-at2 .result) (l .loop .inv) (s .pre .0) (w .before .loop-test .taken) (w .pair-at2 .ensures .0) (sym (k .1 .ensures) ∙ not-false _ (k .2 .left)) (k .3 .left)))
+    (λ k. rw (k .1, k .2) (going-zero (a .end) (a .plain .now) (a .at) (l .loop .prev) (l .loop .taken) (l .loop .live) (l .loop .pos) (w .pair-at2 .result) (l .loop .inv) (s .pre .0) (w .before .loop-test .taken) (w .pair-at2 .ensures .0) (k .0 .left)))
     (c .if3 .came)
 
 returns-5 : tie.Need-returns-5 Inv-loop μ-loop
