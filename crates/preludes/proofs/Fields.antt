@@ -81,14 +81,10 @@ noted-empty n start (One s) = refl
 noted-empty n start Several = refl
 
 -- the slots of a prelude
-module _ (p : List ℕ) (n start : ℕ) (r : Run) (end : ℕ) (e : end ≡ dataEnd p) where
-  pub declared-cut : end < start + 2 * n → r ≡ runOf (slotsAt end p start) → r ≡ runOf (declaredSlots p n start)
-  unfolding declaredSlots
-  declared-cut h q = let m : end ≡ min (start + 2 * n) (dataEnd p) = omega arith in q ∙ ap (λ (k : ℕ). runOf (slotsAt k p start)) m
-
-  pub declared-all : start + 2 * n ≤ end → r ≡ runOf (slotsAt (start + 2 * n) p start) → r ≡ runOf (declaredSlots p n start)
-  unfolding declaredSlots
-  declared-all h q = let m : start + 2 * n ≡ min (start + 2 * n) (dataEnd p) = omega arith in q ∙ ap (λ (k : ℕ). runOf (slotsAt k p start)) m
+pub declared-at :
+    (p : List ℕ) (n start end : ℕ) (r : Run) → end ≡ min (start + 2 * n) (dataEnd p) → r ≡ runOf (slotsAt end p start) → r ≡ runOf (declaredSlots p n start)
+unfolding declaredSlots
+declared-at p n start end r e q = q ∙ ap (λ (k : ℕ). runOf (slotsAt k p start)) e
 
 declared-none : (p : List ℕ) (n start : ℕ) → dataEnd p ≤ start + 1 → runOf (declaredSlots p n start) ≡ noRun
 unfolding declaredSlots

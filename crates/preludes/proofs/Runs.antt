@@ -8,7 +8,7 @@ use lib.ListN.{length}
 use borrow.Author.Tests.{eq-eqb, ne-eqb, lt-ltb, le-ltb}
 use Rattle.lists.specs.Bytes.{pairAt}
 use Rattle.slots.specs.Slots.{isOffset, wordsFrom, falling, opening, slotsAt, liveOf}
-use Rattle.slots.proofs.Words.{words-here, words-end, offset-pos}
+use Rattle.slots.proofs.Words.{words-here, words-end, offset-high, offset-pos, offset-yes, offset-small}
 use Rattle.preludes.specs.Preludes.{runOf}
 use Rattle.preludes.specs.declared.search.Run.{Run}
 
@@ -81,6 +81,7 @@ pub record Going (lim : ℕ) (p : List ℕ) (at prev taken live pos : ℕ) : Typ
   pub within : pos ≤ lim
   pub so-far : pos ≡ at + 2 * taken
   pub few : live ≤ taken
+  pub low : prev < 0xFF0
   pub rest : runOf (slotsAt lim p at) ≡ onto taken live (falling prev (wordsFrom lim p pos))
 
 pub going-first : (lim : ℕ) (p : List ℕ) (at w : ℕ) → lim ≤ length p → at + 1 < lim → w ≡ pairAt p at → isOffset w ≡ true → Going lim p at w 1 1 (at + 2)
@@ -88,6 +89,7 @@ going-first lim p at w le h e o = record {
   within = omega arith;
   so-far = omega arith;
   few = omega arith;
+  low = offset-high w o;
   rest = ap runOf (slots-open lim p at w le h e o) ∙ onto-first w (falling w (wordsFrom lim p (at + 2))) (offset-pos w o);
 }
 
@@ -100,19 +102,21 @@ module _ (lim : ℕ) (p : List ℕ) (at prev taken live pos w : ℕ) (g : Going 
     within = omega arith;
     so-far = omega (arith, g .so-far);
     few = omega (arith, g .few);
+    low = g .low;
     rest = rest-here ∙ ap (onto taken live) (falling-zero prev w _ z) ∙ onto-zero taken live _;
   }
 
-  pub going-live : isOffset w ≡ true → w < prev → Going lim p at w (taken + 1) (live + 1) (pos + 2)
-  going-live o l = record {
+  pub going-live : 0x20 ≤ w → w < prev → Going lim p at w (taken + 1) (live + 1) (pos + 2)
+  going-live b l = let o : isOffset w ≡ true = offset-yes w b (omega (arith, g .low)) in record {
     within = omega arith;
     so-far = omega (arith, g .so-far);
     few = omega (arith, g .few);
+    low = omega (arith, g .low);
     rest = rest-here ∙ ap (onto taken live) (falling-live prev w _ o l) ∙ onto-live taken live w _ (offset-pos w o);
   }
 
-  pub stop-other : (w ≡ 0 → ⊥) → isOffset w ≡ false → record { taken = taken; live = live } ≡ runOf (slotsAt lim p at)
-  stop-other n o = sym (rest-here ∙ ap (onto taken live) (falling-other prev w _ n o) ∙ onto-nil taken live)
+  pub stop-small : (w ≡ 0 → ⊥) → w < 0x20 → record { taken = taken; live = live } ≡ runOf (slotsAt lim p at)
+  stop-small n b = sym (rest-here ∙ ap (onto taken live) (falling-other prev w _ n (offset-small w b)) ∙ onto-nil taken live)
 
   pub stop-above : (w ≡ 0 → ⊥) → prev ≤ w → record { taken = taken; live = live } ≡ runOf (slotsAt lim p at)
   stop-above n l = sym (rest-here ∙ ap (onto taken live) (falling-above prev w _ n l) ∙ onto-nil taken live)

@@ -1,10 +1,11 @@
 // The prelude search: fields that hold the row count, with a slot array behind them.
 use numbers::pair;
 use numbers::wide;
+use slots::SLOT_OFFSET_MIN;
 use slots::has_count;
 use slots::is_offset;
 ghost use mathlib.Core.Path.{_≡_};
-ghost use Prim.Native.Nat.{_+_, _-_, _<_, _≤_, min};
+ghost use Prim.Native.Nat.{_+_, _-_, _*_, _<_, _≤_, min};
 ghost use lib.ListN.{length};
 ghost use Rattle.lists.specs.Bytes.{pairAt};
 ghost use Rattle.slots.specs.Slots.{slotsAt};
@@ -113,17 +114,21 @@ fn note_gap(plain: &[u8], n: usize, field: usize, gap: usize, seen: Prelude) -> 
     note(seen, n, start, declared_run(plain, n, start))
 }
 
-// The slots of a prelude: n of them at most, and none past the data.
 fn declared_run(plain: &[u8], n: usize, start: usize) -> Run
     requires { ⌜ (start < 65536) × (n < 256) ⌝ }
     ensures { λ r. ⌜ r ≡ runOf (declaredSlots (now (plain .entry)) n start) ⌝ }
 {
+    run_at(plain, declared_end(plain, n, start), start)
+}
+
+// Where the slots of a prelude end: n of them at most, and none past the data.
+fn declared_end(plain: &[u8], n: usize, start: usize) -> usize
+    requires { ⌜ (start < 65536) × (n < 256) ⌝ }
+    ensures { λ r. ⌜ r ≡ min (start + 2 * n) (dataEnd (now (plain .entry))) ⌝ }
+{
     let end = data_end(plain);
-    if end < start + 2 * n {
-        run_at(plain, end, start)
-    } else {
-        run_at(plain, start + 2 * n, start)
-    }
+    let last = start + 2 * n;
+    if end < last { end } else { last }
 }
 
 // The slots at a position before an end: an offset, then strictly falling offsets and zeros.
@@ -145,7 +150,8 @@ fn run_at(plain: &[u8], end: usize, at: usize) -> Run
     while pos + 1 < end {
         let w = pair_at(plain, pos);
         if w != 0 {
-            if !is_offset(w) {
+            // What is below an offset is below 0xFF0.
+            if w < SLOT_OFFSET_MIN {
                 return Run { taken, live };
             }
             if prev <= w {

@@ -9,10 +9,10 @@ use native.Mathlib.Nat.{le-of-suc-le-suc, not-suc-le-zero}
 use lib.ListN.{length, getD, take, drop, length-take, length-drop}
 use lib.Seq.{drop-cons, getD-take, length-take-le}
 use lib.Dec.{ltb, leb, eqb}
-use borrow.Author.Tests.{leb-true, ltb-true}
+use borrow.Author.Tests.{leb-true, ltb-true, le-leb, lt-leb, lt-ltb}
 use Rattle.lists.specs.Cases.{pick}
 use Rattle.lists.specs.Bytes.{plainOf, pairAt}
-use Rattle.lists.proofs.Booleans.{and-left, and-right}
+use Rattle.lists.proofs.Booleans.{and-left, and-right, and-yes, and-no-left}
 use Rattle.lists.proofs.Plain.{plain-length}
 use Rattle.slots.specs.Slots.{isOffset, words, wordsFrom, falling, opening, slotsAt}
 
@@ -71,6 +71,14 @@ module _ (w : ℕ) (o : isOffset w ≡ true) where
 
   pub offset-pos : w ≡ 0 → ⊥
   offset-pos z = omega (arith, offset-low)
+
+pub offset-yes : (w : ℕ) → 0x20 ≤ w → w < 0xFF0 → isOffset w ≡ true
+unfolding isOffset
+offset-yes w a b = and-yes (leb 0x20 w) (ltb w 0xFF0) (le-leb 0x20 w a) (lt-ltb w 0xFF0 b)
+
+pub offset-small : (w : ℕ) → w < 0x20 → isOffset w ≡ false
+unfolding isOffset
+offset-small w h = and-no-left (leb 0x20 w) (ltb w 0xFF0) (lt-leb 0x20 w h)
 
 -- a limit within the bytes is within the plain ones
 pub fits : (lim bv : ℕ) (xs : List ℕ) → lim ≤ length xs → lim ≤ length (plainOf bv xs)

@@ -13,4 +13,5 @@ pub use counts::trailer_row_count_matches;
 pub use scans::Found;
 pub use scans::Scan;
 pub use scans::scanned_directory;
+pub use values::SLOT_OFFSET_MIN;
 pub use values::is_offset;

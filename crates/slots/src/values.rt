@@ -20,8 +20,11 @@ pub(crate) fn pair_at(bytes: &[u8], bv: u8, i: usize) -> usize
     pair(plain_byte(bytes[i], bv), plain_byte(bytes[i + 1], bv)) as usize
 }
 
+// No row starts before it, as in the original.
+pub const SLOT_OFFSET_MIN: usize = 0x20;
+
 pub fn is_offset(v: usize) -> bool
     ensures { λ r. ⌜ r ≡ isOffset v ⌝ }
 {
-    0x20 <= v && v < 0xFF0
+    SLOT_OFFSET_MIN <= v && v < 0xFF0
 }

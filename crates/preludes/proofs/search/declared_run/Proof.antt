@@ -1,29 +1,15 @@
--- `declared_run` meets its contract: a prelude's slots end at n of them, or at the data's end.
-use Rattle.preludes.proofs.Fields.{declared-cut, declared-all}
+-- `declared_run` meets its contract: the slots up to where they end.
+use native.Mathlib.Omega.{arith}
+use Rattle.preludes.proofs.Fields.{declared-at}
 use borrow.Author.Needs.{needs}
 use Rattle.preludes.proofs.search.declared_run.Statement.{statement}
 use Rattle.preludes.proofs.search.declared_run.Tie as tie
 
-returns : tie.Need-returns
-returns c =
-    let d = c .before .before in
-    declared-cut _ _ _ _ _ (d .data-end .ensures) (c .before .if1 .taken) (c .run-at .ensures)
+run-at-requires : tie.Need-run-at-requires
+run-at-requires c κs = let e = c .declared-end .ensures in (omega (arith, e), omega (arith, e), search needs)
 
-returns-2 : tie.Need-returns-2
-returns-2 c =
-    let d = c .before .before in
-    declared-all _ _ _ _ _ (d .data-end .ensures) (c .before .if1 .left) (c .run-at2 .ensures)
+returns : tie.Need-returns
+returns c = declared-at _ _ _ _ _ (c .before .declared-end .ensures) (c .run-at .ensures)
 
 pub declared-run-spec : {M : Type 1} → statement M
-declared-run-spec =
-    tie.close
-    (tie.spec
-    (λ c κs. search needs)
-    (λ c. search needs)
-    (λ c. search needs)
-    (λ c κs. search needs)
-    (λ c. search needs)
-    (λ c. search needs)
-    (λ c κs. search needs)
-    returns
-    returns-2)
+declared-run-spec = tie.close (tie.spec (λ c κs. search needs) run-at-requires returns)

@@ -4,7 +4,7 @@ use borrow.Author.Tests.{not-true, not-false}
 use mathlib.Core.Path.{sym, _∙_}
 use Prim.Native.Nat.{_-_}
 use mathlib.Core.Logic.{⊎-elim}
-use Rattle.preludes.proofs.Runs.{Going, slots-past, slots-none, going-first, going-zero, going-live, stop-other, stop-above, stop-end}
+use Rattle.preludes.proofs.Runs.{Going, slots-past, slots-none, going-first, going-zero, going-live, stop-small, stop-above, stop-end}
 use Rattle.preludes.proofs.search.run_at.Statement.{statement}
 use Rattle.preludes.proofs.search.run_at.Tie as tie
 
@@ -31,17 +31,17 @@ loop-holds c =
 
 returns-3 : tie.Need-returns-3 Inv-loop μ-loop
 returns-3 c =
-    let w = c .before .before .before in
+    let w = c .before .before in
     let l = w .before .before in
     let s = l .before .before .before .before .before .before in
-    stop-other _ _ _ _ _ _ _ _ (l .loop .inv) (s .pre .0) (w .before .loop-test .taken) (w .pair-at2 .ensures .0) (c .before .before .if3 .taken) (sym (c .before .is-offset2 .ensures) ∙ not-true _ (c .if4 .taken))
+    stop-small _ _ _ _ _ _ _ _ (l .loop .inv) (s .pre .0) (w .before .loop-test .taken) (w .pair-at2 .ensures .0) (c .before .if3 .taken) (c .if4 .taken)
 
 returns-4 : tie.Need-returns-4 Inv-loop μ-loop
 returns-4 c =
-    let w = c .before .before .before .before in
+    let w = c .before .before .before in
     let l = w .before .before in
     let s = l .before .before .before .before .before .before in
-    stop-above _ _ _ _ _ _ _ _ (l .loop .inv) (s .pre .0) (w .before .loop-test .taken) (w .pair-at2 .ensures .0) (c .before .before .before .if3 .taken) (c .if5 .taken)
+    stop-above _ _ _ _ _ _ _ _ (l .loop .inv) (s .pre .0) (w .before .loop-test .taken) (w .pair-at2 .ensures .0) (c .before .before .if3 .taken) (c .if5 .taken)
 
 loop-again : tie.Need-loop-again Inv-loop μ-loop
 loop-again c =
@@ -50,7 +50,7 @@ loop-again c =
     let s = l .before .before .before .before .before .before in
     let a = s .args in
     ⊎-elim
-    (λ k. rw (k .4, k .5) (going-live (a .end) (a .plain .now) (a .at) (l .loop .prev) (l .loop .taken) (l .loop .live) (l .loop .pos) (w .pair-at2 .result) (l .loop .inv) (s .pre .0) (w .before .loop-test .taken) (w .pair-at2 .ensures .0) (sym (k .1 .ensures) ∙ not-false _ (k .2 .left)) (k .3 .left)))
+    (λ k. rw (k .3, k .4) (going-live (a .end) (a .plain .now) (a .at) (l .loop .prev) (l .loop .taken) (l .loop .live) (l .loop .pos) (w .pair-at2 .result) (l .loop .inv) (s .pre .0) (w .before .loop-test .taken) (w .pair-at2 .ensures .0) (k .1 .left) (k .2 .left)))
     (λ k. rw (k .1, k .2) (going-zero (a .end) (a .plain .now) (a .at) (l .loop .prev) (l .loop .taken) (l .loop .live) (l .loop .pos) (w .pair-at2 .result) (l .loop .inv) (s .pre .0) (w .before .loop-test .taken) (w .pair-at2 .ensures .0) (k .0 .left)))
     (c .if3 .came)
 
@@ -71,7 +71,6 @@ run-at-spec =
     (λ c. search needs)
     loop-holds
     (λ c. search needs)
-    (λ c κs. search needs)
     (λ c κs. search needs)
     returns-3
     returns-4
