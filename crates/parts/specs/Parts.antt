@@ -1,5 +1,5 @@
 -- The parts, each a list of fields, and how many bytes each takes. Assumes nothing.
-use Prim.Native.Nat.{ℕ, _*_}
+use Prim.Native.Nat.{ℕ, _+_, _*_}
 use mathlib.Core.List.{List, [], _∷_}
 use lib.ListN.{getD}
 use Rattle.lists.specs.Cases.{flag}
@@ -18,16 +18,16 @@ use Rattle.sector.specs.Scan.{blankFit}
 use Rattle.sector.specs.declared.fits.Fit.{Fit}
 use Rattle.fields.specs.Fields.{Field, little, pairEntry}
 
--- the answer part: number, how many values, six zeros, four values
+-- the answer part: number, how many values, six zeros, four values. The first three are one number of eight bytes: `Heads.head-bytes`
 abbrev pub answerSize : ℕ
 answerSize = 40
 
+abbrev pub answerHead : Answer → ℕ
+answerHead x = numberOf x + 256 * placed (valuesOf x) .count
+
 unfoldable pub answerFields : Answer → List Field
 answerFields x =
-    little 1 (numberOf x)
-    ∷ little 1 (placed (valuesOf x) .count)
-    ∷ little 2 0
-    ∷ little 4 0
+    little 8 (answerHead x)
     ∷ little 8 (placed (valuesOf x) .first)
     ∷ little 8 (placed (valuesOf x) .second)
     ∷ little 8 (placed (valuesOf x) .third)

@@ -4,11 +4,11 @@ ghost use Rattle.parts.specs.Parts.{answerFields, fitFields, groundField
 use answers::Answer;
 use answers::Ground;
 use answers::Warning;
+use numbers::long8;
 use numbers::put_bool;
 use numbers::put_low16;
 use numbers::put_u8;
 use numbers::put_u16;
-use numbers::put_u32;
 use numbers::put_u64;
 use sector::Fit;
 
@@ -17,10 +17,8 @@ pub fn put_answer(out: &mut [u8], at: usize, x: Answer) -> usize
 {
     let n = x.number();
     let v = x.values();
-    let at = put_u8(out, at, n);
-    let at = put_u8(out, at, v.count);
-    let at = put_u16(out, at, 0);
-    let at = put_u32(out, at, 0);
+    let head = long8(n) + 256 * long8(v.count);
+    let at = put_u64(out, at, head);
     let at = put_u64(out, at, v.first);
     let at = put_u64(out, at, v.second);
     let at = put_u64(out, at, v.third);
