@@ -20,6 +20,8 @@ mod layout;
 pub mod sys;
 mod version;
 
+use std::mem::MaybeUninit;
+
 pub use answers::*;
 
 /// The numbers of include/lumeviqo.h: versions, lengths, offsets in layouts, answers and kinds. `header::X` is LUMEVIQO_X there.
@@ -78,42 +80,41 @@ pub fn crc32(bytes: &[u8]) -> u32 {
 
 /// The trailer record of a page.
 pub fn trailer(page: &[u8]) -> Result<Trailer, Refusal> {
-    let answer = asked::<{ header::TRAILER_LENGTH }>(|a, n| unsafe { sys::lumeviqo_trailer(page.as_ptr(), page.len(), a, n) });
-    layout::trailer(&answer)
+    asked::<{ header::TRAILER_LENGTH }, _>(layout::trailer, |a, n| unsafe { sys::lumeviqo_trailer(page.as_ptr(), page.len(), a, n) })
 }
 
 /// Accepts an unallocated page, and one whose CRC and reserved bytes are right.
 pub fn integrity(number: u64, stored: &[u8]) -> Result<(), Refusal> {
-    let answer =
-        asked::<{ header::INTEGRITY_LENGTH }>(|a, n| unsafe { sys::lumeviqo_integrity(number, stored.as_ptr(), stored.len(), a, n) });
-    layout::integrity(&answer)
+    asked::<{ header::INTEGRITY_LENGTH }, _>(layout::integrity, |a, n| unsafe {
+        sys::lumeviqo_integrity(number, stored.as_ptr(), stored.len(), a, n)
+    })
 }
 
 /// The fields of page 0, whatever its magic.
 pub fn superblock(stored: &[u8]) -> Result<Superblock, Refusal> {
-    let answer = asked::<{ header::SUPERBLOCK_LENGTH }>(|a, n| unsafe { sys::lumeviqo_superblock(stored.as_ptr(), stored.len(), a, n) });
-    layout::superblock(&answer)
+    asked::<{ header::SUPERBLOCK_LENGTH }, _>(layout::superblock, |a, n| unsafe {
+        sys::lumeviqo_superblock(stored.as_ptr(), stored.len(), a, n)
+    })
 }
 
 /// The fields of page 0, if it has the magic of SQL Anywhere 17.
 pub fn superblock_checked(stored: &[u8]) -> Result<Superblock, Refusal> {
-    let answer =
-        asked::<{ header::SUPERBLOCK_LENGTH }>(|a, n| unsafe { sys::lumeviqo_superblock_checked(stored.as_ptr(), stored.len(), a, n) });
-    layout::superblock(&answer)
+    asked::<{ header::SUPERBLOCK_LENGTH }, _>(layout::superblock, |a, n| unsafe {
+        sys::lumeviqo_superblock_checked(stored.as_ptr(), stored.len(), a, n)
+    })
 }
 
 /// The fits of a stored page; its shifted bytes go to `shifted`.
 pub fn scan(number: u64, stored: &[u8], shifted: &mut [u8]) -> Result<Fits, Refusal> {
-    let answer = asked::<{ header::SCAN_LENGTH }>(|a, n| unsafe {
+    asked::<{ header::SCAN_LENGTH }, _>(layout::scan, |a, n| unsafe {
         sys::lumeviqo_scan(number, stored.as_ptr(), stored.len(), shifted.as_mut_ptr(), shifted.len(), a, n)
-    });
-    layout::scan(&answer)
+    })
 }
 
 /// Puts new bytes into a sector of a stored page. The fits and the shifted bytes are then those of the new page.
 pub fn replace(number: u64, stored: &mut [u8], shifted: &mut [u8], fits: &Fits, sector: usize, bytes: &[u8]) -> Result<Fits, Refusal> {
     let fits = layout::fits_bytes(fits);
-    let answer = asked::<{ header::REPLACEMENT_LENGTH }>(|a, n| unsafe {
+    asked::<{ header::REPLACEMENT_LENGTH }, _>(layout::replacement, |a, n| unsafe {
         sys::lumeviqo_replace(
             number,
             stored.as_mut_ptr(),
@@ -128,13 +129,12 @@ pub fn replace(number: u64, stored: &mut [u8], shifted: &mut [u8], fits: &Fits, 
             a,
             n,
         )
-    });
-    layout::replacement(&answer)
+    })
 }
 
 /// Decodes a stored page; the plaintext goes to `out`. `anchors` are values of bv of other pages of the block.
 pub fn decode(number: u64, stored: &[u8], anchors: &[u8], options: Options, out: &mut [u8]) -> Result<Decoding, Refusal> {
-    let answer = asked::<{ header::DECODING_LENGTH }>(|a, n| unsafe {
+    asked::<{ header::DECODING_LENGTH }, _>(layout::decoding, |a, n| unsafe {
         sys::lumeviqo_decode(
             number,
             stored.as_ptr(),
@@ -149,8 +149,7 @@ pub fn decode(number: u64, stored: &[u8], anchors: &[u8], options: Options, out:
             a,
             n,
         )
-    });
-    layout::decoding(&answer)
+    })
 }
 
 /// Decodes a stored page from its summary.
@@ -164,7 +163,7 @@ pub fn decode_summary(
     out: &mut [u8],
 ) -> Result<Decoding, Refusal> {
     let fits = layout::fits_bytes(fits);
-    let answer = asked::<{ header::DECODING_LENGTH }>(|a, n| unsafe {
+    asked::<{ header::DECODING_LENGTH }, _>(layout::decoding, |a, n| unsafe {
         sys::lumeviqo_decode_summary(
             number,
             stored.as_ptr(),
@@ -183,13 +182,12 @@ pub fn decode_summary(
             a,
             n,
         )
-    });
-    layout::decoding(&answer)
+    })
 }
 
 /// Decodes a stored page with a given bv, and no check of its CRC.
 pub fn decode_supplied(number: u64, stored: &[u8], bv: u8, options: Options, out: &mut [u8]) -> Result<Decoding, Refusal> {
-    let answer = asked::<{ header::DECODING_LENGTH }>(|a, n| unsafe {
+    asked::<{ header::DECODING_LENGTH }, _>(layout::decoding, |a, n| unsafe {
         sys::lumeviqo_decode_supplied(
             number,
             stored.as_ptr(),
@@ -203,8 +201,7 @@ pub fn decode_supplied(number: u64, stored: &[u8], bv: u8, options: Options, out
             a,
             n,
         )
-    });
-    layout::decoding(&answer)
+    })
 }
 
 /// The same from its summary.
@@ -218,7 +215,7 @@ pub fn decode_supplied_summary(
     out: &mut [u8],
 ) -> Result<Decoding, Refusal> {
     let fits = layout::fits_bytes(fits);
-    let answer = asked::<{ header::DECODING_LENGTH }>(|a, n| unsafe {
+    asked::<{ header::DECODING_LENGTH }, _>(layout::decoding, |a, n| unsafe {
         sys::lumeviqo_decode_supplied_summary(
             number,
             stored.as_ptr(),
@@ -236,52 +233,50 @@ pub fn decode_supplied_summary(
             a,
             n,
         )
-    });
-    layout::decoding(&answer)
+    })
 }
 
 /// The slot directory of a plain page.
 pub fn parse(number: u64, plain: &[u8], options: Options) -> Result<Parsed, Refusal> {
-    let answer = asked::<{ header::PARSE_LENGTH }>(|a, n| unsafe {
+    asked::<{ header::PARSE_LENGTH }, _>(layout::parsed, |a, n| unsafe {
         sys::lumeviqo_parse(number, plain.as_ptr(), plain.len(), options.leniency.0, options.search_limit, a, n)
-    });
-    layout::parsed(&answer)
+    })
 }
 
 /// How many rows a plain page has.
 pub fn row_count(number: u64, plain: &[u8], options: Options) -> Result<usize, Refusal> {
-    let answer = asked::<{ header::ROW_COUNT_LENGTH }>(|a, n| unsafe {
+    asked::<{ header::ROW_COUNT_LENGTH }, _>(layout::row_count, |a, n| unsafe {
         sys::lumeviqo_row_count(number, plain.as_ptr(), plain.len(), options.leniency.0, options.search_limit, a, n)
-    });
-    layout::row_count(&answer)
+    })
 }
 
 /// A row of a plain page. Rows ascend by offset, and the first is row 0.
 pub fn row(number: u64, plain: &[u8], options: Options, row: usize) -> Result<Row<'_>, Refusal> {
-    let answer = asked::<{ header::ROW_LENGTH }>(|a, n| unsafe {
+    let (offset, end) = asked::<{ header::ROW_LENGTH }, _>(layout::row, |a, n| unsafe {
         sys::lumeviqo_row(number, plain.as_ptr(), plain.len(), options.leniency.0, options.search_limit, row, a, n)
-    });
-    let (offset, end) = layout::row(&answer)?;
+    })?;
     Ok(row_from(plain, offset, end))
 }
 
 /// All rows of a plain page, found in one pass.
 pub fn rows(number: u64, plain: &[u8], options: Options) -> Result<Vec<Row<'_>>, Refusal> {
-    let answer = asked::<{ header::ROWS_LENGTH }>(|a, n| unsafe {
+    let bounds = asked::<{ header::ROWS_LENGTH }, _>(layout::row_bounds, |a, n| unsafe {
         sys::lumeviqo_rows(number, plain.as_ptr(), plain.len(), options.leniency.0, options.search_limit, a, n)
-    });
-    Ok(layout::row_bounds(&answer)?.windows(2).map(|w| row_from(plain, w[0], w[1])).collect())
+    })?;
+    Ok(bounds.windows(2).map(|w| row_from(plain, w[0], w[1])).collect())
 }
 
 fn row_from(plain: &[u8], offset: u16, end: u16) -> Row<'_> {
     Row { offset, bytes: &plain[offset as usize..end as usize] }
 }
 
-/// The answer of a function that writes N bytes of it.
-fn asked<const N: usize>(ask: impl FnOnce(*mut u8, usize) -> usize) -> [u8; N] {
+/// What is read from the answer of a function, which writes N bytes of it. They are not cleared before, nor copied: for the longest layouts that took
+/// a tenth of a call.
+fn asked<const N: usize, T>(read: impl FnOnce(&[u8]) -> T, ask: impl FnOnce(*mut u8, usize) -> usize) -> T {
     version::check();
-    let mut answer = [0; N];
-    let written = ask(answer.as_mut_ptr(), N);
+    let mut answer = MaybeUninit::<[u8; N]>::uninit();
+    let written = ask(answer.as_mut_ptr().cast(), N);
     assert_eq!(written, N, "the library and this crate differ in a layout");
-    answer
+    // SAFETY: a function that returns N has written N bytes, which is proved of each.
+    read(unsafe { answer.assume_init_ref() })
 }
