@@ -2,7 +2,7 @@
 use Prim.Native.Nat.{ℕ, _≤_}
 use mathlib.Core.Path.{_≡_, refl, sym, ap, ap₂, _∙_}
 use mathlib.Core.Bool.{Bool, true, false, and-false}
-use mathlib.Core.List.{List, [], _∷_, _++_}
+use mathlib.Core.List.{List, [], _∷_}
 use native.Mathlib.Omega.{arith}
 use borrow.Author.Tests.{eq-eqb, ne-eqb, le-leb}
 use lib.Dec.{eqb, leb}
@@ -32,19 +32,17 @@ use Rattle.rows.specs.Rows.{ascending, rowsAt, rowIn}
 use Rattle.rows.specs.RowAnswers.{rowsIn, rowsOf, spanAnswer, askedOf, rowAnswerOf}
 use Rattle.rows.specs.declared.spans.Span.{Span}
 use Rattle.rows.specs.declared.spans.Span.the-variants.{At, NoRow}
-use Rattle.votes.specs.Votes.{countsOf, topOf}
 use Rattle.choice.specs.Rules.{refusedOf, choiceOf}
 use Rattle.choice.specs.Supplied.{suppliedOf}
 use Rattle.choice.proofs.ChoiceCases.{choice-length, choice-limit, supplied-length, supplied-limit}
 use Rattle.verdict.specs.declared.Decoding.{Decoding}
-use Rattle.verdict.specs.Sectors.{refitOf}
 use Rattle.verdict.specs.Verdict.{refusal, verdictOf, suppliedVerdict}
 use Rattle.decode.specs.Decode.{entryAnswer, entryChecked, decodingOf, suppliedDecodingOf}
 use Rattle.digits.specs.Digits.{spelled}
 use Rattle.frame.specs.Frames.{isFrame, anchorCount, optionBits, leastCount, anchorsOf}
 use Rattle.reply.specs.Report.{lineOf}
 use Rattle.reply.specs.Reply.{replyOf}
-use Rattle.demands.specs.Told.{Line, _returns_, valuesAt, lengthLines, integrityLines, reasonAt, foundIn, stopIn, preludeAt, offsetAt, endAt, weakValues, firstWrong}
+use Rattle.demands.specs.Told.{Line, valuesAt, parseWithin, choiceWithin, supportWithin, decodingWithin, suppliedWithin}
 use Rattle.demands.specs.Replies.{numberIn, pageIn, limitIn, decodingIn, answerTo, restOf}
 use Rattle.demands.specs.Limits.{limitAnswer, OtherThanLimit, LengthsFirst, LimitRefused}
 use Rattle.demands.proofs.AnswerLines.{choice-gives, supplied-gives}
@@ -151,20 +149,14 @@ module _ (number : ℕ) (shifted : List ℕ) (n : ℕ) (o : Options) (good : lim
   choice-in : (anchors : List ℕ) → OtherThanLimit (choiceOf number shifted anchors n o .answer)
   unfolding valuesAt
   choice-in anchors =
-      let lines : List Line =
-      0 returns []
-      ∷ 2 returns (length shifted ∷ [])
-      ∷ 5 returns (number ∷ [])
-      ∷ 6 returns (number ∷ topOf (countsOf shifted) ∷ [])
-      ∷ 15 returns (number ∷ [])
-      ∷ [] in
+      let lines : List Line = choiceWithin number shifted in
       no-twenty lines (choiceOf number shifted anchors n o .answer) refl
       (choice-gives lines number shifted anchors n o refl (λ e. refl) refl refl refl (λ f. absurd (never-both f good)) .is)
 
   support-in : (bv : ℕ) → OtherThanLimit (suppliedOf number bv shifted n o .answer)
   unfolding valuesAt
   support-in bv =
-      let lines : List Line = 0 returns [] ∷ 2 returns (length shifted ∷ []) ∷ 6 returns (number ∷ bv ∷ []) ∷ [] in
+      let lines : List Line = supportWithin number bv shifted in
       no-twenty lines (suppliedOf number bv shifted n o .answer) refl
       (supplied-gives lines number bv refl refl shifted n o (λ e. refl) (λ f. absurd (never-both f good)) .is)
 
@@ -172,23 +164,14 @@ module _ (number : ℕ) (stored : List ℕ) (fits : List Fit) (shifted : List �
   decoding-in : (anchors : List ℕ) → OtherThanLimit (decodingOf number stored fits shifted anchors o m .choice .answer)
   unfolding valuesAt
   decoding-in anchors =
-      let lines : List Line =
-      integrityLines number stored
-      ++ (2 returns (firstWrong m (length shifted) ∷ [])
-      ∷ 5 returns (number ∷ [])
-      ∷ 6 returns (number ∷ topOf (countsOf shifted) ∷ [])
-      ∷ 7 returns weakValues number (refitOf fits shifted)
-      ∷ 15 returns (number ∷ [])
-      ∷ []) in
+      let lines : List Line = decodingWithin number stored fits shifted m in
       no-twenty lines (decodingOf number stored fits shifted anchors o m .choice .answer) refl
       (decoding-gives number stored fits shifted anchors o m lines refl (λ e. refl) (λ e. refl) refl refl refl refl refl refl (λ f. absurd (never-both f good)) .is)
 
   supplied-in : (bv : ℕ) → OtherThanLimit (suppliedDecodingOf number bv stored fits shifted o m .choice .answer)
   unfolding valuesAt
   supplied-in bv =
-      let lines : List Line =
-      lengthLines stored
-      ++ (2 returns (firstWrong m (length shifted) ∷ []) ∷ 6 returns (number ∷ bv ∷ []) ∷ 7 returns weakValues number (refitOf fits shifted) ∷ []) in
+      let lines : List Line = suppliedWithin number bv stored fits shifted m in
       no-twenty lines (suppliedDecodingOf number bv stored fits shifted o m .choice .answer) refl
       (supplied-decoding-gives number bv stored fits shifted o m lines refl (λ e. refl) (λ e. refl) refl refl (λ f. absurd (never-both f good)) .is)
 
@@ -196,15 +179,7 @@ module _ (lim number : ℕ) (plain : List ℕ) (lenient : Bool) (good : limitFit
   parse-in : OtherThanLimit (parsedOf lim number plain lenient .answer)
   unfolding parsedOf valuesAt
   parse-in =
-      let lines : List Line =
-      0 returns []
-      ∷ 1 returns (length plain ∷ [])
-      ∷ 8 returns (number ∷ reasonAt lim plain ∷ [])
-      ∷ 9 returns (number ∷ [])
-      ∷ 10 returns (number ∷ foundIn (preludeAt lim plain) ∷ rowCount plain ∷ stopIn (preludeAt lim plain) ∷ [])
-      ∷ 11 returns (number ∷ [])
-      ∷ 12 returns (number ∷ offsetAt lim plain ∷ endAt lim plain ∷ [])
-      ∷ [] in
+      let lines : List Line = parseWithin lim number plain in
       no-twenty lines (parsedOf lim number plain lenient .answer) refl
       (decision-settles lines lim number plain
       (record {

@@ -58,7 +58,12 @@ scanLines n m = 0 returns [] ∷ 1 returns (n ∷ []) ∷ 2 returns (m ∷ []) �
 abbrev pub replacementLines : ℕ → ℕ → ℕ → List Line
 replacementLines s n m = scanLines n m ++ (14 returns (s ∷ []) ∷ [])
 
--- ---- slots and rows of a plain page, at the search limit lim. "20, with the limit"
+-- ---- the search limit lim. "20, with the limit, if it is outside the range": the line beside those at a limit within it
+
+abbrev pub orLimit : ℕ → List Line → List Line
+orLimit lim within = 20 returns (lim ∷ []) ∷ within
+
+-- ---- slots and rows of a plain page
 
 -- "8: reason: 1 n from 1 to 3; 2 fewer than 8 live; 3 unconfirmed"
 abbrev pub liveIn : Found → ℕ
@@ -97,8 +102,8 @@ offsetAt lim plain = headOr 0 (insideOf plain ((listedAt lim plain) .start) ((li
 unfoldable pub endAt : ℕ → List ℕ → ℕ
 endAt lim plain = (listedAt lim plain) .start + 2 * (listedAt lim plain) .count
 
-abbrev pub parseLines : ℕ → ℕ → List ℕ → List Line
-parseLines lim number plain =
+abbrev pub parseWithin : ℕ → ℕ → List ℕ → List Line
+parseWithin lim number plain =
     0 returns []
     ∷ 1 returns (length plain ∷ [])
     ∷ 8 returns (number ∷ reasonAt lim plain ∷ [])
@@ -106,28 +111,34 @@ parseLines lim number plain =
     ∷ 10 returns (number ∷ foundIn (preludeAt lim plain) ∷ rowCount plain ∷ stopIn (preludeAt lim plain) ∷ [])
     ∷ 11 returns (number ∷ [])
     ∷ 12 returns (number ∷ offsetAt lim plain ∷ endAt lim plain ∷ [])
-    ∷ 20 returns (lim ∷ [])
     ∷ []
+
+abbrev pub parseLines : ℕ → ℕ → List ℕ → List Line
+parseLines lim number plain = orLimit lim (parseWithin lim number plain)
 
 -- "16: row number"
 abbrev pub rowLines : ℕ → ℕ → List ℕ → ℕ → List Line
 rowLines lim number plain r = parseLines lim number plain ++ (16 returns (r ∷ []) ∷ [])
 
--- ---- choices, for the shifted bytes, at the search limit lim. "5: page, candidates", which stand beside it; "6: page, bv"; "15: page"
+-- ---- choices, for the shifted bytes. "5: page, candidates", which stand beside it; "6: page, bv"; "15: page"
 
-abbrev pub choiceLines : ℕ → ℕ → List ℕ → List Line
-choiceLines lim number shifted =
+abbrev pub choiceWithin : ℕ → List ℕ → List Line
+choiceWithin number shifted =
     0 returns []
     ∷ 2 returns (length shifted ∷ [])
     ∷ 5 returns (number ∷ [])
     ∷ 6 returns (number ∷ topOf (countsOf shifted) ∷ [])
     ∷ 15 returns (number ∷ [])
-    ∷ 20 returns (lim ∷ [])
     ∷ []
 
+abbrev pub choiceLines : ℕ → ℕ → List ℕ → List Line
+choiceLines lim number shifted = orLimit lim (choiceWithin number shifted)
+
+abbrev pub supportWithin : ℕ → ℕ → List ℕ → List Line
+supportWithin number bv shifted = 0 returns [] ∷ 2 returns (length shifted ∷ []) ∷ 6 returns (number ∷ bv ∷ []) ∷ []
+
 abbrev pub supportLines : ℕ → ℕ → ℕ → List ℕ → List Line
-supportLines lim number bv shifted =
-    0 returns [] ∷ 2 returns (length shifted ∷ []) ∷ 6 returns (number ∷ bv ∷ []) ∷ 20 returns (lim ∷ []) ∷ []
+supportLines lim number bv shifted = orLimit lim (supportWithin number bv shifted)
 
 -- ---- decodings
 
@@ -146,22 +157,23 @@ suppliedVerdictLines lim number bv fits shifted = 7 returns weakValues number (r
 abbrev pub firstWrong : ℕ → ℕ → ℕ
 firstWrong m k = pick (eqb m 4096) k m
 
-abbrev pub decodingLines : ℕ → ℕ → List ℕ → List Fit → List ℕ → ℕ → List Line
-decodingLines lim number stored fits shifted m =
+abbrev pub decodingWithin : ℕ → List ℕ → List Fit → List ℕ → ℕ → List Line
+decodingWithin number stored fits shifted m =
     integrityLines number stored
     ++ (2 returns (firstWrong m (length shifted) ∷ [])
     ∷ 5 returns (number ∷ [])
     ∷ 6 returns (number ∷ topOf (countsOf shifted) ∷ [])
     ∷ 7 returns weakValues number (refitOf fits shifted)
     ∷ 15 returns (number ∷ [])
-    ∷ 20 returns (lim ∷ [])
     ∷ [])
 
-abbrev pub suppliedLines : ℕ → ℕ → ℕ → List ℕ → List Fit → List ℕ → ℕ → List Line
-suppliedLines lim number bv stored fits shifted m =
+abbrev pub decodingLines : ℕ → ℕ → List ℕ → List Fit → List ℕ → ℕ → List Line
+decodingLines lim number stored fits shifted m = orLimit lim (decodingWithin number stored fits shifted m)
+
+abbrev pub suppliedWithin : ℕ → ℕ → List ℕ → List Fit → List ℕ → ℕ → List Line
+suppliedWithin number bv stored fits shifted m =
     lengthLines stored
-    ++ (2 returns (firstWrong m (length shifted) ∷ [])
-    ∷ 6 returns (number ∷ bv ∷ [])
-    ∷ 7 returns weakValues number (refitOf fits shifted)
-    ∷ 20 returns (lim ∷ [])
-    ∷ [])
+    ++ (2 returns (firstWrong m (length shifted) ∷ []) ∷ 6 returns (number ∷ bv ∷ []) ∷ 7 returns weakValues number (refitOf fits shifted) ∷ [])
+
+abbrev pub suppliedLines : ℕ → ℕ → ℕ → List ℕ → List Fit → List ℕ → ℕ → List Line
+suppliedLines lim number bv stored fits shifted m = orLimit lim (suppliedWithin number bv stored fits shifted m)
