@@ -29,13 +29,13 @@ extern "C" {
 
 /* The version of this page, which rises with every change of a layout or of what a function takes, and with every new answer or kind.
    lumeviqo_version() is that of the library: where the two differ no other function may be called. */
-#define LUMEVIQO_VERSION 3
+#define LUMEVIQO_VERSION 4
 
-/* Buffers: a page, stored or plain; its shifted bytes, which are those before the trailer; a sector, and the last of the eight. */
+/* Buffers: a page, stored or plain; its shifted bytes, which are those before the trailer; a sector, the last of the eight with the
+   trailer in its last 16 bytes. */
 #define LUMEVIQO_PAGE_LENGTH 4096
 #define LUMEVIQO_SHIFTED_LENGTH 4080
 #define LUMEVIQO_SECTOR_LENGTH 512
-#define LUMEVIQO_LAST_SECTOR_LENGTH 496
 #define LUMEVIQO_SECTOR_COUNT 8
 
 /* Places. */
@@ -270,8 +270,9 @@ size_t lumeviqo_superblock_checked(const uint8_t *stored, size_t stored_length, 
 size_t lumeviqo_scan(uint64_t number, const uint8_t *stored, size_t stored_length, uint8_t *shifted, size_t shifted_length,
                      uint8_t *answer, size_t answer_length);
 
-/* Writes new bytes to a sector of the stored page, and brings `shifted` and the fits up to date: the answer has all eight, seven of
-   them as lent. Refuses: 1, 2, 14. Layout Replacement. */
+/* Writes LUMEVIQO_SECTOR_LENGTH new bytes to a sector of the stored page, and brings `shifted` and the fits up to date: the answer has
+   all eight, seven of them as lent. The last 16 bytes for sector 7 become the page's trailer as they are: what is wrong there is for a
+   decoding to say. Refuses: 1, 2, and 14 for a sector above 7 or any other length. Layout Replacement. */
 size_t lumeviqo_replace(uint64_t number, uint8_t *stored, size_t stored_length, uint8_t *shifted, size_t shifted_length,
                         const uint8_t *fits, size_t fits_length, size_t sector, const uint8_t *bytes, size_t bytes_length,
                         uint8_t *answer, size_t answer_length);

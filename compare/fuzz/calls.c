@@ -1,6 +1,7 @@
 /* Calls the C interface with lengths and bytes that nobody meant, to see that it answers each as include/lumeviqo.h says.
    calls lengths               each buffer of each function with 0 bytes, one too few, one too many, and 2^32; fits with 48; then search
-                               limits at the ends of their range and outside, alone and with each buffer one too few
+                               limits at the ends of their range and outside, alone and with each buffer one too few; then each sector
+                               replaced by bytes of the right length and of others
    calls random SECONDS SEED   calls made from SEED, the same calls for the same seed
    The library has no instrumentation, so each lent buffer stands in an arena of its own, once with its end at an inaccessible page
    and once with its start behind one; what a function may not write to is mapped read-only while it runs. */
@@ -19,6 +20,7 @@
 
 enum { PAGE, FITS, SHIFTED, ANCHORS, BYTES, OUT, ANSWER, ROLES };
 enum { WHOLE = LUMEVIQO_PAGE_LENGTH, DATA = LUMEVIQO_SHIFTED_LENGTH, SECTOR = LUMEVIQO_SECTOR_LENGTH, SECTORS = LUMEVIQO_SECTOR_COUNT };
+enum { LAST_DATA = DATA - (SECTORS - 1) * SECTOR };
 enum { MEMORY_PAGE = 4096, ROOM = 3 * MEMORY_PAGE, CANARY = 0x5C };
 enum { STEPS = 256, FITS_WITHOUT_TIED = SECTORS * LUMEVIQO_FIT_TIED };
 enum { ANSWERS = LUMEVIQO_LIMIT_OUT_OF_RANGE + 1, NO_ANSWER = ANSWERS };
@@ -188,7 +190,8 @@ static void put_u32(uint8_t *bytes, uint64_t n) { put_number(bytes, 4, n); }
 static bool same_u32(const uint8_t *a, const uint8_t *b) { return memcmp(a, b, 4) == 0; }
 static bool same_u16(const uint8_t *a, const uint8_t *b) { return memcmp(a, b, 2) == 0; }
 
-static size_t sector_length(size_t sector) { return sector == SECTORS - 1 ? LUMEVIQO_LAST_SECTOR_LENGTH : SECTOR; }
+/* How many of a sector's bytes are data: in the last one the trailer stands behind them. */
+static size_t data_length(size_t sector) { return sector == SECTORS - 1 ? LAST_DATA : SECTOR; }
 
 /* The CRC by its definition, a bit at a time: what the library's is held against. */
 static uint32_t next_bit(uint32_t crc) { return crc >> 1 ^ (crc & 1 ? 0xEDB88320 : 0); }
@@ -369,7 +372,7 @@ static int decided(uint64_t *value) {
     if (takes_limit(call.function) && (call.limit < LEAST_LIMIT || call.limit > GREATEST_LIMIT))
         return LUMEVIQO_LIMIT_OUT_OF_RANGE;
     *value = call.sector;
-    if (f->lent & OF(BYTES) && (call.sector >= SECTORS || n[BYTES] != sector_length(call.sector)))
+    if (f->lent & OF(BYTES) && (call.sector >= SECTORS || n[BYTES] != SECTOR))
         return LUMEVIQO_BAD_REPLACEMENT;
     return LUMEVIQO_ACCEPTED;
 }
@@ -506,9 +509,9 @@ static void scan_anew(const uint8_t *page) {
 
 static void check_replacement(const Outcome *o) {
     const uint8_t *a = o->held[ANSWER], *page = o->held[PAGE], *fits = a + LUMEVIQO_REPLACEMENT_FITS;
-    size_t s = call.sector, from = SECTOR * s, n = sector_length(s);
-    must(memcmp(page, call.held[PAGE], from) == 0 && memcmp(page + from, call.held[BYTES], n) == 0
-             && memcmp(page + from + n, call.held[PAGE] + from + n, WHOLE - from - n) == 0, "the sector alone is replaced in the page");
+    size_t s = call.sector, from = SECTOR * s, to = from + SECTOR;
+    must(memcmp(page, call.held[PAGE], from) == 0 && memcmp(page + from, call.held[BYTES], SECTOR) == 0
+             && memcmp(page + to, call.held[PAGE] + to, WHOLE - to) == 0, "the sector alone is replaced in the page, the last with its trailer");
     for (size_t k = 0; k < SECTORS; k++)
         must(k == s || same_fit(call.held[FITS] + fit_at(k), fits + fit_at(k)), "the other seven fits are those that were lent");
     for (size_t k = 0; k < DATA; k++)
@@ -516,7 +519,7 @@ static void check_replacement(const Outcome *o) {
     scan_anew(page);
     must(same_fit(fresh.held[ANSWER] + LUMEVIQO_SCAN_FITS + fit_at(s), fits + fit_at(s)), "the sector's fit is that of a fresh scan");
     check_scanned_fit(fits + fit_at(s));
-    must(memcmp(fresh.held[SHIFTED] + from, o->held[SHIFTED] + from, n) == 0, "its shifted bytes are those of a fresh scan");
+    must(memcmp(fresh.held[SHIFTED] + from, o->held[SHIFTED] + from, data_length(s)) == 0, "its shifted bytes are those of a fresh scan");
     must(!call.own_summary
              || (memcmp(fresh.held[ANSWER], a, LUMEVIQO_SCAN_LENGTH) == 0 && memcmp(fresh.held[SHIFTED], o->held[SHIFTED], DATA) == 0),
          "a summary kept is a summary made afresh");
@@ -633,7 +636,8 @@ static void check(const Outcome *o) {
     answers[call.function][given]++;
     must(number == LUMEVIQO_ACCEPTED || (given == number && u64_at(a + LUMEVIQO_ANSWER_VALUES) == value),
          "a wrong length, limit or sector is answered with it");
-    must(number != LUMEVIQO_ACCEPTED || !((BUFFER_REFUSALS | LIMIT_REFUSALS) & OF(given)), "right lengths and limits are taken");
+    must(number != LUMEVIQO_ACCEPTED || !((BUFFER_REFUSALS | LIMIT_REFUSALS | OF(LUMEVIQO_BAD_REPLACEMENT)) & OF(given)),
+         "right lengths, limits and sectors are taken");
     if (given == LUMEVIQO_ACCEPTED)
         check_accepted(o);
     else
@@ -737,7 +741,7 @@ static void tie_all_steps(uint8_t *part, size_t length) {
 
 static void fill_sector(size_t s) {
     uint8_t *part = subject.plain + SECTOR * s;
-    size_t n = sector_length(s), kind = below(8);
+    size_t n = data_length(s), kind = below(8);
     memset(part, kind == 0 ? (int)below(256) : 0, n);
     if (kind == 1)
         noise(part, n);
@@ -804,7 +808,7 @@ static size_t right_length(int role) {
     case FITS: return LUMEVIQO_FITS_LENGTH;
     case SHIFTED: return DATA;
     case ANCHORS: return 2;
-    case BYTES: return sector_length(call.sector);
+    case BYTES: return SECTOR;
     default: return functions[call.function].layout;
     }
 }
@@ -867,7 +871,6 @@ static void try_lengths(void) {
                 continue;
             pairs++;
             call.function = function;
-            call.sector = 0;
             size_t right = right_length(role), lengths[4] = {0, right - 1, right + 1, HUGE_LENGTH};
             for (size_t k = 0; k < 4; k++)
                 try_length(function, role, lengths[k]);
@@ -912,6 +915,21 @@ static void try_limits(void) {
     printf("limits: %zu functions, each with %d limits, alone and with each buffer one short\n", taking, LIMITS);
 }
 
+/* Each sector, and the number behind the last, with new bytes of the right length and of others, among them that of the last sector's data. */
+static void try_sectors(void) {
+    static const size_t lengths[] = {0, ABOUT(LAST_DATA), ABOUT(SECTOR)};
+    enum { LENGTHS = sizeof lengths / sizeof lengths[0] };
+    make_good_subject();
+    for (size_t sector = 0; sector <= SECTORS; sector++)
+        for (size_t k = 0; k < LENGTHS; k++) {
+            right_call(REPLACE);
+            call.sector = sector;
+            call.length[BYTES] = lengths[k];
+            try_call();
+        }
+    printf("sectors: %d, and one behind them, each with %d lengths of new bytes\n", SECTORS, LENGTHS);
+}
+
 static size_t some_limit(void) {
     switch (below(8)) {
     case 0: return LEAST_LIMIT + below(GREATEST_LIMIT - LEAST_LIMIT + 1);
@@ -928,7 +946,7 @@ static size_t strange_length(size_t right) {
     case 1: return right - 1;
     case 2: return right + 1;
     case 3:
-        return ONE_OF(1, ABOUT(LUMEVIQO_ANSWER_LENGTH), FITS_WITHOUT_TIED, ABOUT(LUMEVIQO_FITS_LENGTH), ABOUT(LUMEVIQO_LAST_SECTOR_LENGTH),
+        return ONE_OF(1, ABOUT(LUMEVIQO_ANSWER_LENGTH), FITS_WITHOUT_TIED, ABOUT(LUMEVIQO_FITS_LENGTH), ABOUT(LAST_DATA),
                       ABOUT(SECTOR), ABOUT(DATA), ABOUT(WHOLE), 2 * WHOLE, ROOM);
     default: return below(ROOM + 1);
     }
@@ -966,8 +984,7 @@ static void random_call(void) {
     noise(call.held[ANCHORS], SOME_ANCHORS);
     call.held[ANCHORS][0] = subject.bv;
     call.length[ANCHORS] = one_in(3) ? below(ROOM) : below(3);
-    call.length[BYTES] = right_length(BYTES);
-    memcpy(call.held[BYTES], subject.stored + SECTOR * below(SECTORS - 1), SECTOR);
+    memcpy(call.held[BYTES], subject.stored + SECTOR * below(SECTORS), SECTOR);
     for (int role = 0; role < ANSWER; role++)
         if (one_in(6) && role != ANCHORS)
             alienate(role);
@@ -1028,6 +1045,7 @@ int main(int argc, char **argv) {
     } else {
         try_lengths();
         try_limits();
+        try_sectors();
     }
     tell_counts();
     return EXIT_SUCCESS;

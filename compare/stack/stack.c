@@ -223,14 +223,12 @@ static void must_answer(int function, uint8_t number) {
     must(returned == f->layout && lent[ANSWER][LUMEVIQO_ANSWER_NUMBER] == number, f, "it has the answer of its kind");
 }
 
-static size_t sector_length(size_t sector) { return sector == SECTORS - 1 ? LUMEVIQO_LAST_SECTOR_LENGTH : SECTOR; }
-
 static void right_lengths(int function) {
     call.length[PAGE] = call.length[OUT] = WHOLE;
     call.length[FITS] = LUMEVIQO_FITS_LENGTH;
     call.length[SHIFTED] = DATA;
     call.length[ANCHORS] = 1;
-    call.length[BYTES] = sector_length(call.number[SECTOR_NUMBER]);
+    call.length[BYTES] = SECTOR;
     call.length[ANSWER] = functions[function].layout;
 }
 
@@ -529,7 +527,7 @@ static void make_stored(const Stored *kind) {
     put_run(page, kind->rows, (Run){0x44, 4, kind->rows, 0xFE0, 7}); /* under no step are slots equal that fall by an odd number */
     for (uint64_t s = 0; s < SECTORS; s++) {
         uint64_t shift = p + s - 4 * (p % 16 / 2) + call.number[BV] + (kind->own_bv ? s : 0), step = next();
-        for (size_t i = 0; i < sector_length(s); i++) {
+        for (size_t i = 0; i < SECTOR && SECTOR * s + i < DATA; i++) {
             uint8_t random = s >= kind->clean && below(8) < kind->noise ? (uint8_t)next() : 0;
             page[SECTOR * s + i] += (uint8_t)(random + shift + i * step);
         }

@@ -2,7 +2,7 @@
 use std::fmt;
 
 use crate::header::{
-    GREATEST_SEARCH_LIMIT, LAST_SECTOR_LENGTH, LEAST_SEARCH_LIMIT, PAGE_LENGTH, SEARCH_LIMIT, SECTOR_COUNT, SECTOR_LENGTH, SHIFTED_LENGTH,
+    GREATEST_SEARCH_LIMIT, LEAST_SEARCH_LIMIT, PAGE_LENGTH, SEARCH_LIMIT, SECTOR_COUNT, SECTOR_LENGTH, SHIFTED_LENGTH,
 };
 
 /// Values of bv, ascending.
@@ -164,7 +164,7 @@ impl fmt::Display for Refusal {
             Refusal::BadReplacement { sector } => {
                 write!(
                     f,
-                    "sector {sector} does not take these bytes: sectors 0 to 6 take {SECTOR_LENGTH}, sector 7 takes {LAST_SECTOR_LENGTH}"
+                    "these bytes cannot replace sector {sector}: a sector takes {SECTOR_LENGTH} bytes, sector 7 with its trailer, and sectors are 0 to 7"
                 )
             }
             Refusal::TooManyCandidates { page } => write!(f, "page {page}: more than eight values of bv to choose from"),

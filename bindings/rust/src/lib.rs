@@ -34,6 +34,8 @@ pub mod header {
 pub const PAGE: usize = header::PAGE_LENGTH;
 /// Bytes of a page that are shifted: all but the trailer.
 pub const SHIFTED: usize = header::SHIFTED_LENGTH;
+/// Bytes of a sector. Those of the last end with the trailer.
+pub const SECTOR: usize = header::SECTOR_LENGTH;
 
 /// The checks that are relaxed: a sum of these bits. Other bits mean nothing.
 #[derive(Debug, Clone, Copy, Default, PartialEq, Eq)]
@@ -111,7 +113,8 @@ pub fn scan(number: u64, stored: &[u8], shifted: &mut [u8]) -> Result<Fits, Refu
     })
 }
 
-/// Puts new bytes into a sector of a stored page. The fits and the shifted bytes are then those of the new page.
+/// Puts 512 new bytes into a sector of a stored page, sector 7 with its trailer. The fits and the shifted bytes are then those of the new page.
+/// What is wrong in a trailer shows when the page is decoded.
 pub fn replace(number: u64, stored: &mut [u8], shifted: &mut [u8], fits: &Fits, sector: usize, bytes: &[u8]) -> Result<Fits, Refusal> {
     let fits = layout::fits_bytes(fits);
     asked::<{ header::REPLACEMENT_LENGTH }, _>(layout::replacement, |a, n| unsafe {

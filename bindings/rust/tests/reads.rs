@@ -212,20 +212,6 @@ fn a_limit_out_of_range_is_refused() {
 }
 
 #[test]
-fn a_replaced_sector_is_read_as_the_whole_page() {
-    let mut page = zero_data();
-    let mut shifted = [0; SHIFTED];
-    let fits = scan(9, &page, &mut shifted).unwrap();
-    let sector: Vec<u8> = (0..512).map(|i| (i * 3 % 256) as u8).collect();
-    let fits = replace(9, &mut page, &mut shifted, &fits, 2, &sector).unwrap();
-    let mut fresh = [0; SHIFTED];
-    assert_eq!(scan(9, &page, &mut fresh).unwrap(), fits);
-    assert_eq!(fresh, shifted);
-    assert_eq!(replace(9, &mut page, &mut shifted, &fits, 8, &sector).unwrap_err(), Refusal::BadReplacement { sector: 8 });
-    assert_eq!(replace(9, &mut page, &mut shifted, &fits, 7, &sector).unwrap_err(), Refusal::BadReplacement { sector: 7 });
-}
-
-#[test]
 fn every_wrong_length_is_refused() {
     let page = zero_data();
     for n in [0, 1, 4095] {

@@ -39,9 +39,9 @@ impl Pages {
         self.plans[k].bv
     }
 
-    /// What sector k of page k is replaced by: that of the next page.
+    /// What sector k of page k is replaced by: that of the next page, the last with its trailer.
     pub fn replacement(&self, k: usize) -> &[u8] {
-        &self.stored[(k + 1) % COUNT][k * 512..(k * 512 + 512).min(DATA)]
+        &self.stored[(k + 1) % COUNT][k * 512..][..512]
     }
 
     /// Whether both sides answer every question about them alike, with the bits and at the limits that are timed; if not, where they differ.

@@ -7,10 +7,11 @@ use lumeviqo::{PAGE, SHIFTED};
 use oracle::Reading;
 use oracle::plain::{Decoded, Fit, Refusal};
 
-use crate::kinds::{Case, MARKER};
+use crate::kinds::{Case, MARKER, fits_sector};
 use crate::lent::{BEFORE, Fault};
 use crate::limits::{self, USUAL};
 use crate::options::Options;
+use crate::plan::data_of;
 use crate::questions::Question;
 use crate::random::Random;
 use crate::shrink::hex;
@@ -363,7 +364,7 @@ fn by_a_summary(case: &Case, room: usize, shifted: usize, limit: usize, tally: &
 fn refused_summaries(case: &Case, shifted: usize, tally: &mut Tally) -> Checked {
     let Some(refusal) = wrong_length(case.page.len(), None, Some(shifted)) else { return Ok(()) };
     scan(case, &Err(refusal), shifted, tally)?;
-    for (sector, new) in [(0, &[1; 512][..]), (9, &[1; 3])] {
+    for (sector, new) in [(0, &[1; 512][..]), (7, &[1; 512]), (9, &[1; 3])] {
         let (mut page, mut summary) = (case.page.clone(), Summary::of_none(vec![BEFORE; shifted]));
         replacement(tally, Question::Replacement, case.number, &mut page, &mut summary, sector, new)?;
     }
@@ -373,7 +374,7 @@ fn refused_summaries(case: &Case, shifted: usize, tally: &mut Tally) -> Checked 
 /// The case's replacements one after the other, in its own summary and in one of no page, and some that do not fit.
 fn replacements(case: &Case, own: Summary, tally: &mut Tally) -> Checked {
     let n = case.number;
-    for (sector, length) in [(8, 512), (256, 512), (1 << 32, 512), (7, 512), (6, 496), (0, 0)] {
+    for (sector, length) in [(8, 512), (256, 512), (1 << 32, 512), (7, 496), (7, 513), (6, 496), (0, 0)] {
         let (mut page, mut summary) = (case.page.clone(), Summary::of_none(own.shifted.clone()));
         replacement(tally, Question::Replacement, n, &mut page, &mut summary, sector, &vec![1; length])?;
     }
@@ -386,31 +387,33 @@ fn replacements(case: &Case, own: Summary, tally: &mut Tally) -> Checked {
         replacement(tally, Question::Replacement, n, &mut page, &mut summary, *sector, new)?;
         replacement(tally, Question::ForeignReplacement, n, &mut other_page, &mut foreign, *sector, new)?;
     }
+    holds(Question::Replacement, "the final page", &page, &case.replaced_page())?;
     // The summary, and what is read from it, are what a fresh reading of the final page gives.
     let reading = Reading::new(n, &page).expect("its length is as it was");
     same(tally, Question::Replacement, Ok(summary.clone()), &Summary::of(&reading))?;
-    for (bits, limit) in [(7, USUAL), (4, USUAL), (7, case.limit), (4, case.limit)] {
-        let (options, expected) = (Options { bits, limit }, reading.decode(&case.anchors, bits, limit));
-        from_summary(tally, Question::SummaryDecoding, case, &page, &summary, &case.anchors, options, &expected)
-            .map_err(|d| d.asked_at(limit))?;
+    for limit in [USUAL, case.limit] {
+        for bits in [0, 4, 7] {
+            let (options, expected) = (Options { bits, limit }, reading.decode(&case.anchors, bits, limit));
+            from_summary(tally, Question::ReplacedDecoding, case, &page, &summary, &case.anchors, options, &expected)
+                .map_err(|d| d.asked_at(limit))?;
+        }
     }
     Ok(())
 }
 
-/// Document 01's replacement, by the original's scan of the new sector: its fit and its shifted bytes are those, seven stay.
+/// Document 02's replacement, #103, by the original's scan of the sector's data: its fit and its shifted bytes are those, seven stay.
 fn replaced(n: u64, page: &[u8], summary: &Summary, sector: usize, new: &[u8]) -> Result<(Vec<u8>, Summary), Refusal> {
     if let Some(refusal) = wrong_length(page.len(), None, Some(summary.shifted.len())) {
         return Err(refusal);
     }
-    if sector > 7 || new.len() != if sector == 7 { 496 } else { 512 } {
+    if !fits_sector(sector, new) {
         return Err(refused(h::BAD_REPLACEMENT, sector));
     }
-    let range = sector * 512..sector * 512 + new.len();
     let (mut page, mut summary) = (page.to_vec(), summary.clone());
-    page[range.clone()].copy_from_slice(new);
+    page[sector * 512..][..512].copy_from_slice(new);
     let (fit, shifted) = oracle::sector(n, &page, sector);
     summary.fits[sector] = fit;
-    summary.shifted[range].copy_from_slice(&shifted);
+    summary.shifted[data_of(sector)].copy_from_slice(&shifted);
     Ok((page, summary))
 }
 

@@ -1,6 +1,6 @@
 //! The kinds of input. Each is made from a stream of random numbers alone.
 use crate::limits::{self, GREATEST, LEAST, USUAL};
-use crate::plan::{DATA, Fill, Plan, fill, inexact, put, slots, triangular, write_directory};
+use crate::plan::{DATA, Fill, Plan, data_of, fill, inexact, put, slots, triangular, write_directory};
 use crate::random::Random;
 
 /// One input, and what is asked about it.
@@ -15,10 +15,31 @@ pub struct Case {
     pub bv: u8,
     /// A plain page that is parsed besides the decoded one.
     pub plain: Option<Vec<u8>>,
-    pub replacements: Vec<(usize, Vec<u8>)>,
+    pub replacements: Vec<Replacement>,
     /// A search limit at which it is asked besides the usual one, and one that is out of range.
     pub limit: usize,
     pub outside: usize,
+}
+
+/// A sector and its new bytes.
+pub type Replacement = (usize, Vec<u8>);
+
+impl Case {
+    /// What the replacements lead to, in whatever order: each sector has the last bytes that fit it, or those that it had.
+    pub fn replaced_page(&self) -> Vec<u8> {
+        let last = |s: usize| self.replacements.iter().rev().find(|(sector, new)| *sector == s && fits_sector(s, new));
+        (0..8).flat_map(|s| last(s).map_or(&self.page[s * 512..][..512], |(_, new)| new)).copied().collect()
+    }
+
+    /// The new bytes of sector 7, where they fit: the last 16 are a trailer.
+    fn last_sectors(&mut self) -> impl Iterator<Item = &mut Vec<u8>> {
+        self.replacements.iter_mut().filter(|(sector, new)| *sector == 7 && fits_sector(7, new)).map(|(_, new)| new)
+    }
+}
+
+/// Document 02, #103: whether a sector can be replaced by these bytes.
+pub fn fits_sector(sector: usize, new: &[u8]) -> bool {
+    sector < 8 && new.len() == 512
 }
 
 /// The engine's copyright text, which a superblock has somewhere.
@@ -230,9 +251,8 @@ fn tied(r: &mut Random) -> Case {
     }
     let mut case = case_of(r, plan);
     if r.one_in(3) {
-        let s = r.below(8);
-        let n = if s == 7 { 496 } else { 512 };
-        case.page[s * 512..s * 512 + n].copy_from_slice(&triangular(n));
+        let data = data_of(r.below(8));
+        case.page[data.clone()].copy_from_slice(&triangular(data.len()));
         recrc(&mut case.page);
     }
     case
@@ -471,10 +491,13 @@ fn bad_crc(r: &mut Random) -> Case {
     case_of(r, plan)
 }
 
+/// The bytes of a trailer that are zero, but on page 0.
+const RESERVED: [usize; 5] = [3, 8, 9, 10, 11];
+
 fn bad_trailer(r: &mut Random) -> Case {
     let mut plan = Plan::new(r);
     fill_rest(r, &mut plan, 0);
-    let at = r.of(&[3, 8, 9, 10, 11]);
+    let at = r.of(&RESERVED);
     plan.trailer[at] = r.from_to(1, 255) as u8;
     if r.one_in(3) {
         directory(r, &mut plan);
@@ -549,21 +572,61 @@ fn lengths(r: &mut Random) -> Case {
     case
 }
 
-/// Sectors that come from another page, or come back, some of them refused.
+/// All sectors of another page, or of one of zeros; or some that come from another page, or come back.
 fn replaced(r: &mut Random) -> Case {
     let mut case = prelude(r);
-    let other = calibrated(r).page;
-    let good = case.page.clone();
-    for _ in 0..r.from_to(1, 10) {
-        let s = if r.one_in(8) { r.of(&[8, 9, 255, usize::MAX]) } else { r.below(8) };
-        let n = if s == 7 { 496 } else { 512 };
-        let from = if r.one_in(2) { &other } else { &good };
-        let at = s.min(7) * 512;
-        let mut bytes = from[at..(at + n).min(4096)].to_vec();
-        bytes.resize(if r.one_in(10) { r.of(&[0, 495, 497, 511, 513]) } else { n }, 0);
-        case.replacements.push((s, bytes));
+    let makers: [Maker; 3] = [calibrated, no_exact, prelude];
+    let other = r.of(&makers)(r).page;
+    match r.below(8) {
+        0 => case.replacements = all_sectors(r, &[0; 4096]),
+        1 | 2 => case.replacements = all_sectors(r, &other),
+        _ => {
+            case.replacements = some_sectors(r, [&case.page, &other]);
+            change_trailers(r, &mut case);
+        }
     }
     case
+}
+
+/// In any order.
+fn all_sectors(r: &mut Random, page: &[u8]) -> Vec<Replacement> {
+    let mut all: Vec<Replacement> = page.chunks(512).map(<[u8]>::to_vec).enumerate().collect();
+    (1..all.len()).for_each(|k| all.swap(k, r.below(k + 1)));
+    all
+}
+
+/// Of two pages, sector 7 more often than others, some with a number or a length that is refused.
+fn some_sectors(r: &mut Random, pages: [&[u8]; 2]) -> Vec<Replacement> {
+    let sector = |r: &mut Random| {
+        let s = if r.one_in(8) { r.of(&[8, 9, 255, usize::MAX]) } else { r.below(10).min(7) };
+        let mut new = r.of(&pages)[s.min(7) * 512..][..512].to_vec();
+        if r.one_in(10) {
+            new.resize(r.of(&[0, 495, 496, 497, 511, 513]), 0);
+        }
+        (s, new)
+    };
+    (0..r.from_to(1, 10)).map(|_| sector(r)).collect()
+}
+
+/// Trailers that often differ from the page's, most of them with the CRC of the page that the replacements lead to.
+fn change_trailers(r: &mut Random, case: &mut Case) {
+    case.last_sectors().for_each(|new| change_trailer(r, &mut new[data_of(7).len()..]));
+    if !r.one_in(4) {
+        let mut page = case.replaced_page();
+        recrc(&mut page);
+        case.last_sectors().for_each(|new| new[508..].copy_from_slice(&page[4092..]));
+    }
+}
+
+/// Another row count, a reserved byte set, zeros, any bytes, or none changed.
+fn change_trailer(r: &mut Random, trailer: &mut [u8]) {
+    match r.below(8) {
+        0 | 1 => trailer[0] = r.byte(),
+        2 => trailer[r.of(&RESERVED)] = r.from_to(1, 255) as u8,
+        3 => trailer.fill(0),
+        4 => trailer.fill_with(|| r.byte()),
+        _ => {}
+    }
 }
 
 /// Another kind's page with some of its bytes changed, the CRC left, or set right.

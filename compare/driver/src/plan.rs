@@ -1,4 +1,6 @@
 //! A page by plan: its plaintext, steps, bv, page number and trailer, and the stored page that they give.
+use std::ops::Range;
+
 use crate::random::Random;
 
 pub const DATA: usize = 4080;
@@ -48,8 +50,13 @@ impl Plan {
     }
 
     pub fn sector(&mut self, s: usize) -> &mut [u8] {
-        &mut self.data[s * 512..(s * 512 + 512).min(DATA)]
+        &mut self.data[data_of(s)]
     }
+}
+
+/// Where a sector's data stand: of the last one's 512 bytes the trailer takes 16.
+pub fn data_of(s: usize) -> Range<usize> {
+    s * 512..(s * 512 + 512).min(DATA)
 }
 
 /// The offset of document 01.

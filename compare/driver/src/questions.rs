@@ -47,6 +47,7 @@ questions! {
     Decoding "decoding" [0, 1, 2, 3, 4, 5, 6, 7, 20],
     SummaryDecoding "decoding from a summary" [0, 1, 2, 3, 4, 5, 6, 7, 20],
     ForeignDecoding "decoding from another page's summary" [0, 3, 4, 5, 6, 7],
+    ReplacedDecoding "decoding after replacements" [0, 3, 4, 5, 6, 7],
     ManyAnchors "decoding with more than 255 anchors" [0, 3, 4, 5, 6, 7],
     Supplied "supplied bv" [0, 1, 2, 6, 7, 20],
     SummarySupplied "supplied bv from a summary" [0, 1, 2, 6, 7, 20],

@@ -1,7 +1,7 @@
 -- DEMAND 1, proved. Assumes nothing.
 use Prim.Native.Nat.{ℕ, _-_, _*_}
 use mathlib.Core.Path.{_≡_, refl, ap, _∙_}
-use mathlib.Core.Bool.{Bool, true, false, not}
+use mathlib.Core.Bool.{Bool, true, false, not, _&&_}
 use mathlib.Core.List.{List, [], _∷_}
 use native.Mathlib.Nat.{zero-add}
 use borrow.Author.Tests.{eq-eqb}
@@ -28,7 +28,7 @@ use Rattle.page.specs.Superblock.{magicOf, blankSuperblock, superblockAnswer, c
 use Rattle.page.specs.declared.trailers.TrailerAnswer.{TrailerAnswer}
 use Rattle.page.specs.declared.superblocks.SuperblockAnswer.{SuperblockAnswer}
 use Rattle.sector.specs.Scan.{blankFits}
-use Rattle.summary.specs.Page.{sectorEnd, checked, pageScanOf, scanned}
+use Rattle.summary.specs.Page.{checked, pageScanOf, scanned}
 use Rattle.summary.specs.Replace.{replaced, storedAfter, shiftedAfter}
 use Rattle.directory.specs.Decisions.{answerOf, verdictRefused, decisionOf}
 use Rattle.slotted.specs.Locations.{givenOf, locatedOf}
@@ -127,13 +127,9 @@ scan-one number stored m = checked-one (scanLines (length stored) m) (length sto
 replaced-one : (number s : ℕ) (new : List ℕ) (n m : ℕ) (fits : List Fit) → OneOf (replacementLines s n m) (replaced number s new n m fits .answer)
 unfolding replaced valuesAt
 replaced-one number s new n m fits =
-    let sized : Answer = pick (eqb (length new) (sectorEnd s - s * 512)) answer.Accepted (answer.BadReplacement s) in
-    checked-one (replacementLines s n m) n m (pick (ltb s 8) sized (answer.BadReplacement s)) refl refl
-    (pick-case (OneOf (replacementLines s n m)) (ltb s 8) sized (answer.BadReplacement s)
-    (λ g.
-    pick-case (OneOf (replacementLines s n m)) (eqb (length new) (sectorEnd s - s * 512)) answer.Accepted (answer.BadReplacement s)
-    (λ h. record { is = refl }) (λ h. record { is = refl }))
-    (λ g. record { is = refl }))
+    checked-one (replacementLines s n m) n m (pick (ltb s 8 && eqb (length new) 512) answer.Accepted (answer.BadReplacement s)) refl refl
+    (pick-case (OneOf (replacementLines s n m)) (ltb s 8 && eqb (length new) 512) answer.Accepted (answer.BadReplacement s)
+    (λ g. record { is = refl }) (λ g. record { is = refl }))
 
 scan-quiet :
     (number : ℕ) (stored buffer : List ℕ)

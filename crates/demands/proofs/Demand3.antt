@@ -9,6 +9,7 @@ use Rattle.summary.specs.Page.{fitsOf, bytesOf}
 use Rattle.summary.specs.Replace.{ifReplaced, storedAfter}
 use Rattle.summary.specs.State.{State, Replacement, Fresh, atScan, after, afterAll}
 use Rattle.summary.proofs.Sectors.{summary-length}
+use Rattle.summary.proofs.WholePages.{whole-page}
 use Rattle.summary.proofs.Replacements.{fresh-scan, fresh-after, fresh-after-all, fresh-is, one-sector}
 use Rattle.decode.specs.Decode.{decodingOf, suppliedDecodingOf, writtenOf}
 use Rattle.demands.specs.Demand3.{editedBy, edited, ReadAfresh, KeptFresh}
@@ -55,4 +56,5 @@ kept-fresh =
           (fresh-after-all number rs (atScan number stored buffer) f)
           (stored-after-all number rs (atScan number stored buffer) f);
       others = one-sector;
+      exchanged = whole-page;
     }

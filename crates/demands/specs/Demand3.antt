@@ -1,14 +1,16 @@
 -- DEMAND 3: after any sequence of replacements, repeats and refused ones included, the kept summary, and the decodings made from it with the
 -- same anchors and options, are those of the final page read afresh; on an alien summary a replacement changes nothing of the other seven
 -- sectors. The contracts of `decode_summary` and `decode_page` are the two sides. Assumes nothing.
-use Prim.Native.Nat.{ℕ, _*_}
+use Prim.Native.Nat.{ℕ, _*_, _<_}
 use mathlib.Core.Path.{_≡_}
+use mathlib.Core.Bool.{true}
 use mathlib.Core.List.{List, [], _∷_}
 use lib.ListN.{length}
+use Rattle.lists.specs.Counts.{isIn}
 use Rattle.lists.specs.Pieces.{over}
 use Rattle.answers.specs.declared.settings.Options.{Options}
 use Rattle.summary.specs.Replace.{ifReplaced}
-use Rattle.summary.specs.State.{State, Replacement, Taken, OneSector, atScan, after, afterAll}
+use Rattle.summary.specs.State.{State, Replacement, Whole, Taken, OneSector, atScan, after, afterAll, sectorsOf}
 use Rattle.verdict.specs.declared.Decoding.{Decoding}
 use Rattle.decode.specs.Decode.{decodingOf, suppliedDecodingOf, writtenOf}
 use Rattle.demands.specs.Demand2.{readPage, readWith, leftIn}
@@ -46,3 +48,11 @@ pub record KeptFresh : Type 0 where
       → ReadAfresh number (afterAll number (atScan number stored buffer) rs) (edited stored rs)
   -- on any summary, also another page's
   pub others : (number : ℕ) (t : State) (r : Replacement) → Taken t r → length (t .fits) ≡ 8 → OneSector number r t (after number t r)
+  -- and all eight sectors of another page, in any order, repeats included, make page and summary that page's
+  pub exchanged :
+      (number : ℕ) (t : State) (other buffer order : List ℕ)
+      → Whole t
+      → length other ≡ 4096
+      → length buffer ≡ 4080
+      → ((k : ℕ) → k < 8 → isIn k order ≡ true)
+      → afterAll number t (sectorsOf other order) ≡ atScan number other buffer

@@ -21,7 +21,7 @@ use Rattle.parts.specs.Parts.{answerSize, answerFields, fitsSize, fitsFields, b
 
 -- it changes with every layout, and with what a function takes
 abbrev pub layoutVersion : ℕ
-layoutVersion = 3
+layoutVersion = 4
 
 -- integrity: the answer part alone
 abbrev pub integrityBytes : Answer → List ℕ

@@ -16,4 +16,4 @@ pub use summaries::write_replacement;
 pub use summaries::write_scan;
 
 // The version of the layouts and of what the C functions take: any change of one is a change of this.
-pub const LAYOUT_VERSION: u32 = 3;
+pub const LAYOUT_VERSION: u32 = 4;

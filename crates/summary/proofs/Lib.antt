@@ -4,3 +4,4 @@ pub mod Parts
 pub mod Sectors
 pub mod Rescans
 pub mod Outcomes
+pub mod WholePages

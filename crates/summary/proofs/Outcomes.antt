@@ -1,5 +1,5 @@
 -- A scan's and a replacement's outcome, by its answer; and the answers, by the checks. Assumes nothing.
-use Prim.Native.Nat.{ℕ, _-_, _*_, _≤_, _<_}
+use Prim.Native.Nat.{ℕ, _*_, _≤_, _<_}
 use mathlib.Core.Path.{_≡_, ap}
 use mathlib.Core.List.{List}
 use borrow.Author.Tests.{eq-eqb, ne-eqb, lt-ltb, le-ltb}
@@ -11,7 +11,7 @@ use Rattle.sector.specs.Byte.{offsetOf}
 use Rattle.sector.specs.Fit.{fitOf, sectorOf}
 use Rattle.sector.specs.declared.fits.Fit.{Fit}
 use Rattle.sector.specs.Scan.{blankFits}
-use Rattle.summary.specs.Page.{sectorEnd, fitsOf, bytesOf, checked, ifAccepted, pageScanOf, scanned}
+use Rattle.summary.specs.Page.{dataOf, fitsOf, bytesOf, checked, ifAccepted, pageScanOf, scanned}
 use Rattle.summary.specs.Replace.{replaceAnswer, replaced, storedAfter, shiftedAfter}
 use Rattle.summary.specs.declared.pages.PageScan.{PageScan}
 use Rattle.summary.specs.declared.replacing.Changed.{Changed}
@@ -40,11 +40,11 @@ module _ (s : ℕ) (new : List ℕ) (n m : ℕ) where
       pub replace-sector : 8 ≤ s → BadReplacement s ≡ replaceAnswer s new n m
       replace-sector q = rw (eq-eqb n 4096 e, eq-eqb m 4080 h, le-ltb s 8 q)
 
-      pub replace-size : s < 8 → (length new ≡ sectorEnd s - s * 512 → ⊥) → BadReplacement s ≡ replaceAnswer s new n m
-      replace-size q d = rw (eq-eqb n 4096 e, eq-eqb m 4080 h, lt-ltb s 8 q, ne-eqb (length new) (sectorEnd s - s * 512) d)
+      pub replace-size : s < 8 → (length new ≡ 512 → ⊥) → BadReplacement s ≡ replaceAnswer s new n m
+      replace-size q d = rw (eq-eqb n 4096 e, eq-eqb m 4080 h, lt-ltb s 8 q, ne-eqb (length new) 512 d)
 
-      pub replace-good : s < 8 → length new ≡ sectorEnd s - s * 512 → Accepted ≡ replaceAnswer s new n m
-      replace-good q d = rw (eq-eqb n 4096 e, eq-eqb m 4080 h, lt-ltb s 8 q, eq-eqb (length new) (sectorEnd s - s * 512) d)
+      pub replace-good : s < 8 → length new ≡ 512 → Accepted ≡ replaceAnswer s new n m
+      replace-good q d = rw (eq-eqb n 4096 e, eq-eqb m 4080 h, lt-ltb s 8 q, eq-eqb (length new) 512 d)
 
 -- the parts of the contracts
 module _ (number : ℕ) (stored buffer : List ℕ) (a : Answer) (e : a ≡ checked (length stored) (length buffer) Accepted) where
@@ -64,14 +64,14 @@ module _
     (e : a ≡ replaceAnswer s new (length stored) (length shifted))
   where
     pub replace-answer :
-        _≡_ {A = Changed} (record { answer = a; fits = ifAccepted a (set fits s (fitOf (offsetOf number s) new)) fits }) (replaced number s new (length stored) (length shifted) fits)
+        _≡_ {A = Changed} (record { answer = a; fits = ifAccepted a (set fits s (fitOf (offsetOf number s) (dataOf s new))) fits }) (replaced number s new (length stored) (length shifted) fits)
     unfolding replaced
-    replace-answer = ap (λ (x : Answer). record { answer = x; fits = ifAccepted x (set fits s (fitOf (offsetOf number s) new)) fits }) e
+    replace-answer = ap (λ (x : Answer). record { answer = x; fits = ifAccepted x (set fits s (fitOf (offsetOf number s) (dataOf s new))) fits }) e
 
     pub replace-stored : ifAccepted a (over stored (s * 512) new) stored ≡ storedAfter s new stored (length shifted)
     unfolding storedAfter
     replace-stored = ap (λ (x : Answer). ifAccepted x (over stored (s * 512) new) stored) e
 
-    pub replace-shifted : ifAccepted a (over shifted (s * 512) (sectorOf (offsetOf number s) new)) shifted ≡ shiftedAfter number s new (length stored) shifted
+    pub replace-shifted : ifAccepted a (over shifted (s * 512) (sectorOf (offsetOf number s) (dataOf s new))) shifted ≡ shiftedAfter number s new (length stored) shifted
     unfolding shiftedAfter
-    replace-shifted = ap (λ (x : Answer). ifAccepted x (over shifted (s * 512) (sectorOf (offsetOf number s) new)) shifted) e
+    replace-shifted = ap (λ (x : Answer). ifAccepted x (over shifted (s * 512) (sectorOf (offsetOf number s) (dataOf s new))) shifted) e

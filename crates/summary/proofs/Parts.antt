@@ -7,11 +7,12 @@ use native.Mathlib.Nat.{eq-or-lt-of-le, le-of-suc-le-suc, not-suc-le-zero}
 use native.Mathlib.Decide.{ℕ-discrete, decLt}
 use native.Mathlib.Omega.{arith}
 use lib.ListN.{length, getD, take, drop, length-append, length-take, length-drop, List·getD-append}
-use lib.Seq.{getD-append-add, ext-getD, getD-take, getD-drop}
+use lib.Seq.{getD-append-add, ext-getD, getD-take, getD-drop, take-take, take-add, take-all, drop-drop}
 use Rattle.lists.specs.Pieces.{joined, over}
 use Rattle.lists.proofs.Joined.{joined-ext}
-use Rattle.lists.proofs.Over.{over-length, over-here, over-before, over-after, over-last, over-append}
-use Rattle.summary.specs.Page.{sectorEnd, part}
+use Rattle.lists.proofs.Over.{over-here, over-before, over-after, over-last, over-append}
+use Rattle.summary.specs.Page.{sectorEnd, dataOf, part}
+use Rattle.summary.specs.State.{sectorAt}
 
 -- sector s of a list that is long enough
 pub part-length : (l : List ℕ) (s : ℕ) → 4080 ≤ length l → length (part s l) ≡ sectorEnd s - s * 512
@@ -80,26 +81,72 @@ joined-over f g (suc n) s z k hs hn h = go (joined-over f g n s z k) (ℕ-discre
         over-append (joined f n) (f n) (g s) (s * 512) (omega (arith, sized-length f n z (omega arith)))
         ∙ ap₂ (λ (l x : List ℕ). l ++ x) (ih hs' (omega arith) (λ t q d. h t (omega arith) d)) (h n (omega arith) ne)
 
--- a page, or a page's shifted bytes, of which sector s is written over
-module _ (l new : List ℕ) (s : ℕ) (hs : s < 8) (hl : 4080 ≤ length l) (hn : length new ≡ sectorEnd s - s * 512) where
-  room : s * 512 + length new ≤ length l
-  room = omega arith
+-- ---- all 512 bytes of a sector
 
-  pub whole-length : length (over l (s * 512) new) ≡ length l
-  whole-length = over-length l new (s * 512) room
+pub sector-length : (l : List ℕ) (s : ℕ) → length l ≡ 4096 → s < 8 → length (sectorAt s l) ≡ 512
+unfolding sectorAt
+sector-length l s h k = simp (length-take, length-drop) (omega arith)
 
-  pub part-here : part s (over l (s * 512) new) ≡ new
-  unfolding part
-  part-here = ap (λ (n : ℕ). take n (drop (s * 512) (over l (s * 512) new))) (sym hn) ∙ over-here l new (s * 512) room
+-- the data are the first of them
+pub sector-data : (l : List ℕ) (s : ℕ) → dataOf s (sectorAt s l) ≡ part s l
+unfolding sectorAt part
+sector-data l s = take-take (sectorEnd s - s * 512) 512 (drop (s * 512) l) (omega arith)
 
-  pub part-other : (t : ℕ) → t < 8 → (t ≡ s → ⊥) → part t (over l (s * 512) new) ≡ part t l
-  unfolding part
-  part-other t h ne = go (decLt t s)
+-- shifted bytes are data alone
+pub sector-part : (l : List ℕ) (s : ℕ) → length l ≡ 4080 → s < 8 → sectorAt s l ≡ part s l
+unfolding sectorAt
+sector-part l s h k =
+    let few : length (take 512 (drop (s * 512) l)) ≤ sectorEnd s - s * 512 = simp (length-take, length-drop) (omega arith) in
+    sym (take-all (sectorEnd s - s * 512) (take 512 (drop (s * 512) l)) few) ∙ sector-data l s
+
+-- the last 16 of sector 7's are the trailer
+pub trailer-of : (l : List ℕ) → length l ≡ 4096 → drop 4080 l ≡ drop 496 (sectorAt 7 l)
+unfolding sectorAt
+trailer-of l h = sym (ap (drop 496) (take-all 512 (drop 3584 l) (omega (arith, length-drop 3584 l))) ∙ drop-drop 496 3584 l)
+
+-- the eight of a page, or of a page's shifted bytes, are all of it
+sectors-joined : (l : List ℕ) (n : ℕ) → joined (λ s. sectorAt s l) n ≡ take (n * 512) l
+unfolding joined sectorAt
+sectors-joined l zero = refl
+sectors-joined l (suc n) =
+    let to : n * 512 + 512 ≡ suc n * 512 = omega arith in
+    ap (λ (x : List ℕ). x ++ take 512 (drop (n * 512) l)) (sectors-joined l n)
+    ∙ sym (take-add (n * 512) 512 l)
+    ∙ ap (λ (k : ℕ). take k l) to
+
+pub sectors-whole : (l : List ℕ) → length l ≤ 4096 → l ≡ joined (λ s. sectorAt s l) 8
+sectors-whole l h = sym (sectors-joined l 8 ∙ take-all 4096 l h)
+
+-- ---- a page, or a page's shifted bytes, written over from where sector s begins
+
+module _ (l new : List ℕ) (s : ℕ) (room : s * 512 + length new ≤ length l) where
+  abbrev written : List ℕ
+  written = over l (s * 512) new
+
+  piece-here : (n : ℕ) → n ≤ length new → take n (drop (s * 512) written) ≡ take n new
+  piece-here n h = sym (take-take n (length new) (drop (s * 512) written) h) ∙ ap (take n) (over-here l new (s * 512) room)
+
+  piece-other : length new ≤ 512 → (t n : ℕ) → n ≤ 512 → (t ≡ s → ⊥) → take n (drop (t * 512) written) ≡ take n (drop (t * 512) l)
+  piece-other few t n h ne = go (decLt t s)
     where
-      go : Dec (t < s) → take (sectorEnd t - t * 512) (drop (t * 512) (over l (s * 512) new)) ≡ take (sectorEnd t - t * 512) (drop (t * 512) l)
-      go (yes q) = over-before l new (s * 512) room (t * 512) (sectorEnd t - t * 512) (omega arith)
-      go (no q) = ap (take (sectorEnd t - t * 512)) (over-after l new (s * 512) room (t * 512) (omega arith))
+      go : Dec (t < s) → take n (drop (t * 512) written) ≡ take n (drop (t * 512) l)
+      go (yes q) = over-before l new (s * 512) room (t * 512) n (omega arith)
+      go (no q) = ap (take n) (over-after l new (s * 512) room (t * 512) (omega arith))
 
-  -- what stands after the eight sectors: the trailer
-  pub trailer-kept : drop 4080 (over l (s * 512) new) ≡ drop 4080 l
-  trailer-kept = over-after l new (s * 512) room 4080 (omega arith)
+  -- its data are those of the new bytes, and the other seven keep theirs
+  pub part-here : sectorEnd s - s * 512 ≤ length new → part s written ≡ dataOf s new
+  unfolding part
+  part-here h = piece-here (sectorEnd s - s * 512) h
+
+  pub part-other : length new ≤ 512 → (t : ℕ) → (t ≡ s → ⊥) → part t written ≡ part t l
+  unfolding part
+  part-other few t ne = piece-other few t (sectorEnd t - t * 512) (omega arith) ne
+
+  -- so with all 512 bytes of a sector
+  pub sector-here : length new ≡ 512 → sectorAt s written ≡ new
+  unfolding sectorAt
+  sector-here e = piece-here 512 (omega arith) ∙ take-all 512 new (omega arith)
+
+  pub sector-other : length new ≤ 512 → (t : ℕ) → (t ≡ s → ⊥) → sectorAt t written ≡ sectorAt t l
+  unfolding sectorAt
+  sector-other few t ne = piece-other few t 512 (omega arith) ne

@@ -1,14 +1,15 @@
 -- DEMAND 3, on replacement: the kept summary is that of the final page, and on any summary one sector alone changes. Assumes nothing.
-use Prim.Native.Nat.{ℕ, _-_, _*_, _<_}
+use Prim.Native.Nat.{ℕ, _+_, _-_, _*_, _≤_, _<_}
 use mathlib.Core.Path.{_≡_, refl, sym, ap, _∙_, subst}
 use mathlib.Core.Bool.{false}
 use mathlib.Core.List.{List, [], _∷_}
 use mathlib.Core.Logic.{_⊎_, inl, inr, ⊎-elim}
 use native.Mathlib.Decide.{ℕ-discrete, decLt}
 use native.Mathlib.Omega.{arith}
-use lib.ListN.{length, set, length-set}
-use lib.Seq.{getD-set-same, getD-set-other}
+use lib.ListN.{length, set, drop, length-set}
+use lib.Seq.{getD-set-same, getD-set-other, take-all, length-take-le}
 use Rattle.lists.specs.Pieces.{over}
+use Rattle.lists.proofs.Over.{over-length, over-after}
 use Rattle.lists.proofs.Each.{each-set}
 use Rattle.answers.specs.Answers.{isAccepted}
 use Rattle.answers.specs.declared.kinds.Answer.{Answer}
@@ -18,11 +19,11 @@ use Rattle.sector.specs.Fit.{fitOf, sectorOf}
 use Rattle.sector.specs.Scan.{blankFit}
 use Rattle.sector.specs.declared.fits.Fit.{Fit}
 use Rattle.sector.proofs.Shifts.{sector-length}
-use Rattle.summary.specs.Page.{sectorEnd, fitAt, bytesAt, fitsOf, bytesOf, checked, pageScanOf, scanned}
+use Rattle.summary.specs.Page.{sectorEnd, dataOf, part, fitAt, bytesAt, fitsOf, bytesOf, checked, pageScanOf, scanned}
 use Rattle.summary.specs.Replace.{replaceAnswer, replaced, storedAfter, shiftedAfter}
-use Rattle.summary.specs.State.{State, Replacement, atScan, after, afterAll, Fresh, Taken, OneSector}
+use Rattle.summary.specs.State.{State, Replacement, atScan, after, afterAll, Fresh, Taken, OneSector, sectorAt}
 use Rattle.summary.specs.declared.pages.PageScan.{PageScan}
-use Rattle.summary.proofs.Parts.{joined-over, whole-length, part-here, part-other, trailer-kept}
+use Rattle.summary.proofs.Parts.{joined-over, part-here, part-other, sector-here, sector-other, trailer-of}
 use Rattle.summary.proofs.Sectors.{bytes-length, bytes-sized}
 use Rattle.summary.proofs.Outcomes.{scan-good, replace-page, replace-room, replace-sector, replace-size, replace-good, scan-answer, scan-buffer, replace-answer, replace-stored, replace-shifted}
 
@@ -31,8 +32,8 @@ abbrev put : ℕ → State → Replacement → State
 put number t r =
     record {
       stored = over (t .stored) (r .sector * 512) (r .new);
-      shifted = over (t .shifted) (r .sector * 512) (sectorOf (offsetOf number (r .sector)) (r .new));
-      fits = set (t .fits) (r .sector) (fitOf (offsetOf number (r .sector)) (r .new));
+      shifted = over (t .shifted) (r .sector * 512) (sectorOf (offsetOf number (r .sector)) (dataOf (r .sector) (r .new)));
+      fits = set (t .fits) (r .sector) (fitOf (offsetOf number (r .sector)) (dataOf (r .sector) (r .new)));
     }
 
 module _ (number : ℕ) (t : State) (r : Replacement) where
@@ -62,12 +63,12 @@ module _ (number : ℕ) (t : State) (r : Replacement) where
       s : ℕ
       s = r .sector
 
-      size : length (t .stored) ≡ 4096 → length (t .shifted) ≡ 4080 → s < 8 → Dec (length (r .new) ≡ sectorEnd s - s * 512) → Taken t r ⊎ (after number t r ≡ t)
+      size : length (t .stored) ≡ 4096 → length (t .shifted) ≡ 4080 → s < 8 → Dec (length (r .new) ≡ 512) → Taken t r ⊎ (after number t r ≡ t)
       size a b h (yes e) = inl (record { whole = a; buffer = b; within = h; sized = e })
       size a b h (no ne) = inr (refused (BadReplacement s) refl (replace-size s (r .new) _ _ a b h ne))
 
       within : length (t .stored) ≡ 4096 → length (t .shifted) ≡ 4080 → Dec (s < 8) → Taken t r ⊎ (after number t r ≡ t)
-      within a b (yes h) = size a b h (ℕ-discrete (length (r .new)) (sectorEnd s - s * 512))
+      within a b (yes h) = size a b h (ℕ-discrete (length (r .new)) 512)
       within a b (no h) = inr (refused (BadReplacement s) refl (replace-sector s (r .new) _ _ a b (omega arith)))
 
       buffer : length (t .stored) ≡ 4096 → Dec (length (t .shifted) ≡ 4080) → Taken t r ⊎ (after number t r ≡ t)
@@ -83,52 +84,82 @@ module _ (number : ℕ) (t : State) (r : Replacement) where
     s : ℕ
     s = r .sector
 
+    fresh-data : List ℕ
+    fresh-data = dataOf s (r .new)
+
     ys : List ℕ
-    ys = sectorOf (offsetOf number s) (r .new)
+    ys = sectorOf (offsetOf number s) fresh-data
 
     long : length ys ≡ sectorEnd s - s * 512
-    unfolding ys s
-    long = sector-length (offsetOf number s) (r .new) ∙ k .sized
+    unfolding ys fresh-data s
+    long = sector-length (offsetOf number s) (dataOf s (r .new)) ∙ length-take-le (sectorEnd s - s * 512) (r .new) (omega (arith, k .sized))
+
+    bytes-room : s * 512 + length ys ≤ length (t .shifted)
+    unfolding s
+    bytes-room = omega (arith, long, k .within, k .buffer)
+
+    page-room : s * 512 + length (r .new) ≤ length (t .stored)
+    unfolding s
+    page-room = omega (arith, k .within, k .sized, k .whole)
+
+    -- the trailer is the end of sector 7
+    trailer-new : s ≡ 7 → drop 4080 (over (t .stored) (s * 512) (r .new)) ≡ drop 496 (r .new)
+    unfolding s
+    trailer-new e =
+        let page : List ℕ = over (t .stored) (s * 512) (r .new) in
+        trailer-of page (over-length (t .stored) (r .new) (s * 512) page-room ∙ k .whole)
+        ∙ ap (drop 496) (ap (λ (j : ℕ). sectorAt j page) (sym e) ∙ sector-here (t .stored) (r .new) s page-room (k .sized))
 
     put-one : OneSector number r t (put number t r)
-    unfolding ys s
+    unfolding ys fresh-data s
     put-one =
         record {
-          fit-new = getD-set-same (t .fits) s (fitOf (offsetOf number s) (r .new)) blankFit (omega (arith, k .within));
-          shifted-new = part-here (t .shifted) ys s (k .within) (omega (arith, k .buffer)) long;
-          stored-new = part-here (t .stored) (r .new) s (k .within) (omega (arith, k .whole)) (k .sized);
-          fits-kept = λ j ne. getD-set-other (t .fits) s j (fitOf (offsetOf number s) (r .new)) blankFit ne;
-          shifted-kept = λ j q ne. part-other (t .shifted) ys s (k .within) (omega (arith, k .buffer)) long j q ne;
-          stored-kept = λ j q ne. part-other (t .stored) (r .new) s (k .within) (omega (arith, k .whole)) (k .sized) j q ne;
-          trailer-kept = trailer-kept (t .stored) (r .new) s (k .within) (omega (arith, k .whole)) (k .sized);
-          lengths-kept = (
-            length-set (t .fits) s _ ∙ h,
-            whole-length (t .shifted) ys s (k .within) (omega (arith, k .buffer)) long ∙ k .buffer,
-            whole-length (t .stored) (r .new) s (k .within) (omega (arith, k .whole)) (k .sized) ∙ k .whole,
-          );
+          fit-new = getD-set-same (t .fits) s (fitOf (offsetOf number s) fresh-data) blankFit (omega (arith, k .within));
+          shifted-new = part-here (t .shifted) ys s bytes-room (omega (arith, long)) ∙ take-all (sectorEnd s - s * 512) ys (omega (arith, long));
+          stored-new = sector-here (t .stored) (r .new) s page-room (k .sized);
+          trailer-new = trailer-new;
+          fits-kept = λ j ne. getD-set-other (t .fits) s j (fitOf (offsetOf number s) fresh-data) blankFit ne;
+          shifted-kept = λ j q ne. part-other (t .shifted) ys s bytes-room (omega (arith, long)) j ne;
+          stored-kept = λ j q ne. sector-other (t .stored) (r .new) s page-room (omega (arith, k .sized)) j ne;
+          trailer-kept = λ q. over-after (t .stored) (r .new) (s * 512) page-room 4080 (omega (arith, q, k .sized));
+          lengths-kept =
+              record {
+                page = over-length (t .stored) (r .new) (s * 512) page-room ∙ k .whole;
+                bytes = over-length (t .shifted) ys (s * 512) bytes-room ∙ k .buffer;
+                eight = length-set (t .fits) s _ ∙ h;
+              };
         }
 
     pub one-sector : OneSector number r t (after number t r)
     one-sector = subst (OneSector number r t) (sym (taken-after k)) put-one
 
 -- a fresh summary stays fresh
-module _ (number : ℕ) (stored new : List ℕ) (s : ℕ) (hs : s < 8) (hp : length stored ≡ 4096) (hn : length new ≡ sectorEnd s - s * 512) where
+module _ (number : ℕ) (stored new : List ℕ) (s : ℕ) (hs : s < 8) (hp : length stored ≡ 4096) (hn : length new ≡ 512) where
   abbrev other : List ℕ
   other = over stored (s * 512) new
 
-  fits-agree : set (fitsOf number stored) s (fitOf (offsetOf number s) new) ≡ fitsOf number other
+  room : s * 512 + length new ≤ length stored
+  room = omega arith
+
+  here : dataOf s new ≡ part s other
+  here = sym (part-here stored new s room (omega arith))
+
+  kept : (t : ℕ) → (t ≡ s → ⊥) → part t stored ≡ part t other
+  kept t ne = sym (part-other stored new s room (omega arith) t ne)
+
+  fits-agree : set (fitsOf number stored) s (fitOf (offsetOf number s) (dataOf s new)) ≡ fitsOf number other
   unfolding fitAt
   fits-agree =
-      ap (λ (l : List ℕ). set (fitsOf number stored) s (fitOf (offsetOf number s) l)) (sym (part-here stored new s hs (omega arith) hn))
-      ∙ each-set (fitAt number stored) (fitAt number other) 8 s hs (λ t h ne. ap (fitOf (offsetOf number t)) (sym (part-other stored new s hs (omega arith) hn t h ne)))
+      ap (λ (l : List ℕ). set (fitsOf number stored) s (fitOf (offsetOf number s) l)) here
+      ∙ each-set (fitAt number stored) (fitAt number other) 8 s hs (λ t h ne. ap (fitOf (offsetOf number t)) (kept t ne))
 
-  bytes-agree : over (bytesOf number stored) (s * 512) (sectorOf (offsetOf number s) new) ≡ bytesOf number other
+  bytes-agree : over (bytesOf number stored) (s * 512) (sectorOf (offsetOf number s) (dataOf s new)) ≡ bytesOf number other
   unfolding bytesAt
   bytes-agree =
-      ap (λ (l : List ℕ). over (bytesOf number stored) (s * 512) (sectorOf (offsetOf number s) l)) (sym (part-here stored new s hs (omega arith) hn))
+      ap (λ (l : List ℕ). over (bytesOf number stored) (s * 512) (sectorOf (offsetOf number s) l)) here
       ∙ joined-over (bytesAt number stored) (bytesAt number other) 8 s (bytes-sized number stored hp)
-      (bytes-length number other (whole-length stored new s hs (omega arith) hn ∙ hp) s) hs (omega arith)
-      (λ t h ne. ap (sectorOf (offsetOf number t)) (sym (part-other stored new s hs (omega arith) hn t h ne)))
+      (bytes-length number other (over-length stored new (s * 512) room ∙ hp) s) hs (omega arith)
+      (λ t h ne. ap (sectorOf (offsetOf number t)) (kept t ne))
 
 pub fresh-after : (number : ℕ) (t : State) (r : Replacement) → Fresh number t → Fresh number (after number t r)
 fresh-after number t r f =
@@ -138,12 +169,12 @@ fresh-after number t r f =
     fresh k =
         let s : ℕ = r .sector in
         record {
-          whole = whole-length (t .stored) (r .new) s (k .within) (omega (arith, k .whole)) (k .sized) ∙ k .whole;
+          whole = over-length (t .stored) (r .new) (s * 512) (omega (arith, k .within, k .sized, k .whole)) ∙ k .whole;
           bytes =
-              ap (λ (l : List ℕ). over l (s * 512) (sectorOf (offsetOf number s) (r .new))) (f .bytes)
+              ap (λ (l : List ℕ). over l (s * 512) (sectorOf (offsetOf number s) (dataOf s (r .new)))) (f .bytes)
               ∙ bytes-agree number (t .stored) (r .new) s (k .within) (k .whole) (k .sized);
           kept =
-              ap (λ (l : List Fit). set l s (fitOf (offsetOf number s) (r .new))) (f .kept)
+              ap (λ (l : List Fit). set l s (fitOf (offsetOf number s) (dataOf s (r .new)))) (f .kept)
               ∙ fits-agree number (t .stored) (r .new) s (k .within) (k .whole) (k .sized);
         }
 

@@ -8,14 +8,14 @@ use native.Mathlib.Omega.{arith}
 use lib.ListN.{length, take, drop, set, length-set, length-take, length-drop}
 use lib.Seq.{take-suc-set, take-all}
 use Rattle.lists.specs.Pieces.{each, joined, over}
-use Rattle.lists.proofs.Over.{over-up-to, lent-over}
+use Rattle.lists.proofs.Over.{over-length, over-up-to, lent-over}
 use Rattle.sector.specs.Byte.{offsetOf}
 use Rattle.sector.specs.Fit.{fitOf, sectorOf}
 use Rattle.sector.specs.Scan.{sectorFit, sectorOut}
 use Rattle.sector.specs.declared.fits.Fit.{Fit}
-use Rattle.summary.specs.Page.{sectorEnd, part, fitAt, bytesAt, fitsOf, bytesOf}
+use Rattle.summary.specs.Page.{sectorEnd, dataOf, part, fitAt, bytesAt, fitsOf, bytesOf}
 use Rattle.summary.specs.Rescan.{refitted, reshifted}
-use Rattle.summary.proofs.Parts.{part-here, whole-length}
+use Rattle.summary.proofs.Parts.{part-here}
 use Rattle.summary.proofs.Sectors.{bytes-length, fit-scans, bytes-scan}
 
 module _ (number : ℕ) (stored : List ℕ) (first : ℕ) where
@@ -47,7 +47,7 @@ module _ (number : ℕ) (stored : List ℕ) (first : ℕ) where
     reshifted-length zero hp hm h = hm
     reshifted-length (suc n) hp hm h =
         let ih : length (reshifted number stored first shifted n) ≡ 4080 = reshifted-length n hp hm (omega arith) in
-        whole-length (reshifted number stored first shifted n) (bytesAt number stored (first + n)) (first + n) (omega arith) (omega arith) (bytes-length number stored hp (first + n)) ∙ ih
+        over-length (reshifted number stored first shifted n) (bytesAt number stored (first + n)) ((first + n) * 512) (omega (arith, bytes-length number stored hp (first + n))) ∙ ih
 
 -- the fits and the shifted bytes after n sectors
 pub record Rescanned (number : ℕ) (stored : List ℕ) (first : ℕ) (fits₀ : List Fit) (shifted₀ : List ℕ) (n : ℕ) (fits : List Fit) (shifted : List ℕ) : Type 0 where
@@ -83,7 +83,7 @@ module _ (number : ℕ) (stored : List ℕ) (first : ℕ) (fits₀ : List Fit) (
               ap₂ (λ (x : List Fit) (f : Fit). set x (first + n) f) (r .fits-now) (fit-scans number stored hp (first + n) o e ho he (lent shifted) hs room fit hf)
               ∙ refitted-more number stored first fits₀ n;
           shifted-now = put ∙ ap (λ (x : List ℕ). over x ((first + n) * 512) zs) (r .shifted-now) ∙ reshifted-more number stored first shifted₀ n;
-          long = ap length put ∙ whole-length shifted zs (first + n) hs (omega (arith, r .long)) long ∙ r .long;
+          long = ap length put ∙ over-length shifted zs ((first + n) * 512) (omega (arith, long, r .long)) ∙ r .long;
         }
 
 -- all eight: a summary of the page, whatever was there
@@ -123,15 +123,18 @@ module _ (number : ℕ) (stored : List ℕ) where
         sym (take-all 4080 (reshifted number stored 0 shifted 8) (omega (arith, reshifted-length number stored 0 shifted 8 hp hm (omega arith)))) ∙ front-bytes 8 (omega arith)
 
 -- a single one, of a page that has just been written over there
-module _ (number : ℕ) (stored new : List ℕ) (s : ℕ) (hs : s < 8) (hp : length stored ≡ 4096) (hn : length new ≡ sectorEnd s - s * 512) where
-  pub refitted-one : (fits : List Fit) → refitted number (over stored (s * 512) new) s fits 1 ≡ set fits s (fitOf (offsetOf number s) new)
+module _ (number : ℕ) (stored new : List ℕ) (s : ℕ) (hs : s < 8) (hp : length stored ≡ 4096) (hn : length new ≡ 512) where
+  here : part s (over stored (s * 512) new) ≡ dataOf s new
+  here = part-here stored new s (omega arith) (omega arith)
+
+  pub refitted-one : (fits : List Fit) → refitted number (over stored (s * 512) new) s fits 1 ≡ set fits s (fitOf (offsetOf number s) (dataOf s new))
   unfolding refitted fitAt
   refitted-one fits =
       ap (λ (k : ℕ). set fits k (fitOf (offsetOf number k) (part k (over stored (s * 512) new)))) (add-zero s)
-      ∙ ap (λ (l : List ℕ). set fits s (fitOf (offsetOf number s) l)) (part-here stored new s hs (omega arith) hn)
+      ∙ ap (λ (l : List ℕ). set fits s (fitOf (offsetOf number s) l)) here
 
-  pub reshifted-one : (shifted : List ℕ) → reshifted number (over stored (s * 512) new) s shifted 1 ≡ over shifted (s * 512) (sectorOf (offsetOf number s) new)
+  pub reshifted-one : (shifted : List ℕ) → reshifted number (over stored (s * 512) new) s shifted 1 ≡ over shifted (s * 512) (sectorOf (offsetOf number s) (dataOf s new))
   unfolding reshifted bytesAt
   reshifted-one shifted =
       ap (λ (k : ℕ). over shifted (k * 512) (sectorOf (offsetOf number k) (part k (over stored (s * 512) new)))) (add-zero s)
-      ∙ ap (λ (l : List ℕ). over shifted (s * 512) (sectorOf (offsetOf number s) l)) (part-here stored new s hs (omega arith) hn)
+      ∙ ap (λ (l : List ℕ). over shifted (s * 512) (sectorOf (offsetOf number s) l)) here

@@ -14,12 +14,16 @@ use Rattle.sector.specs.Scan.{blankFits}
 use Rattle.sector.specs.declared.fits.Fit.{Fit}
 use Rattle.summary.specs.declared.pages.PageScan.{PageScan}
 
--- sectors 0 to 6 have 512 bytes, sector 7 has 496: where sector s ends, and its bytes, of a page or of a page's shifted bytes
+-- sectors 0 to 6 have 512 bytes of data, sector 7 has 496: where the data of sector s end
 abbrev pub sectorEnd : ℕ → ℕ
 sectorEnd s = min (s * 512 + 512) 4080
 
+-- the data among the bytes of sector s, which may have the trailer behind them; and those of a page, or of a page's shifted bytes
+abbrev pub dataOf : ℕ → List ℕ → List ℕ
+dataOf s bytes = take (sectorEnd s - s * 512) bytes
+
 unfoldable pub part : ℕ → List ℕ → List ℕ
-part s bytes = take (sectorEnd s - s * 512) (drop (s * 512) bytes)
+part s bytes = dataOf s (drop (s * 512) bytes)
 
 -- the fit and the shifted bytes of sector s of a stored page
 unfoldable pub fitAt : ℕ → List ℕ → ℕ → Fit

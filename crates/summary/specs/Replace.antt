@@ -1,6 +1,8 @@
--- Document 01, "Summary and replacement": the replacement of a sector. Assumes nothing.
-use Prim.Native.Nat.{ℕ, _-_, _*_}
+-- Document 01, "Summary and replacement", with request #103: a sector is replaced by 512 bytes, sector 7 by its data and the trailer.
+-- Assumes nothing.
+use Prim.Native.Nat.{ℕ, _*_}
 use mathlib.Core.Path.{_≡_}
+use mathlib.Core.Bool.{_&&_}
 use mathlib.Core.List.{List}
 use lib.Dec.{eqb, ltb}
 use lib.ListN.{length, set}
@@ -11,31 +13,30 @@ use Rattle.answers.specs.declared.kinds.Answer.the-variants.{Accepted, BadRepla
 use Rattle.sector.specs.Byte.{offsetOf}
 use Rattle.sector.specs.Fit.{fitOf, sectorOf}
 use Rattle.sector.specs.declared.fits.Fit.{Fit}
-use Rattle.summary.specs.Page.{sectorEnd, checked, ifAccepted}
+use Rattle.summary.specs.Page.{dataOf, checked, ifAccepted}
 use Rattle.summary.specs.declared.replacing.Changed.{Changed}
 
--- checks 1, 2, 14, for a page of n bytes and a buffer of m: 512 bytes for sectors 0 to 6, 496 for sector 7
+-- checks 1, 2, 14, for a page of n bytes and a buffer of m: one of the eight sectors, and 512 bytes for each
 abbrev pub replaceAnswer : ℕ → List ℕ → ℕ → ℕ → Answer
-replaceAnswer s new n m =
-    checked n m (pick (ltb s 8) (pick (eqb (length new) (sectorEnd s - s * 512)) Accepted (BadReplacement s)) (BadReplacement s))
+replaceAnswer s new n m = checked n m (pick (ltb s 8 && eqb (length new) 512) Accepted (BadReplacement s))
 
 -- x where the replacement is accepted, y where it is refused
 abbrev pub ifReplaced : {A : Type 0} → ℕ → List ℕ → ℕ → ℕ → A → A → A
 ifReplaced s new n m x y = ifAccepted (replaceAnswer s new n m) x y
 
--- the answer, and the fits with that of sector s made of the new bytes; a refusal returns the fits it was given
+-- the answer, and the fits with that of sector s made of the new data; a refusal returns the fits it was given
 unfoldable pub replaced : ℕ → ℕ → List ℕ → ℕ → ℕ → List Fit → Changed
 replaced number s new n m fits =
-    record { answer = replaceAnswer s new n m; fits = ifReplaced s new n m (set fits s (fitOf (offsetOf number s) new)) fits }
+    record { answer = replaceAnswer s new n m; fits = ifReplaced s new n m (set fits s (fitOf (offsetOf number s) (dataOf s new))) fits }
 
--- the stored page afterwards: the new bytes in sector s, the trailer as it was
+-- the stored page afterwards: the new bytes in sector s, and so in sector 7 the trailer as it comes
 unfoldable pub storedAfter : ℕ → List ℕ → List ℕ → ℕ → List ℕ
 storedAfter s new stored m = ifReplaced s new (length stored) m (over stored (s * 512) new) stored
 
--- the shifted bytes afterwards: in sector s those of the new bytes
+-- the shifted bytes afterwards: in sector s those of the new data
 unfoldable pub shiftedAfter : ℕ → ℕ → List ℕ → ℕ → List ℕ → List ℕ
 shiftedAfter number s new n shifted =
-    ifReplaced s new n (length shifted) (over shifted (s * 512) (sectorOf (offsetOf number s) new)) shifted
+    ifReplaced s new n (length shifted) (over shifted (s * 512) (sectorOf (offsetOf number s) (dataOf s new))) shifted
 
 -- the promise of `replace_sector`: its result, and what the lent page and the lent shifted bytes hold afterwards
 abbrev pub Renews : ℕ → ℕ → List ℕ → List ℕ → List ℕ → List ℕ → List ℕ → List Fit → Changed → Type 0

@@ -1,13 +1,13 @@
 -- A stored page beside its summary, and what a list of replacements makes of them. Assumes nothing.
-use Prim.Native.Nat.{ℕ, _-_, _*_, _<_}
+use Prim.Native.Nat.{ℕ, _*_, _<_}
 use mathlib.Core.Path.{_≡_}
-use mathlib.Core.List.{List, [], _∷_}
-use lib.ListN.{length, getD, drop}
+use mathlib.Core.List.{List, [], _∷_, map}
+use lib.ListN.{length, getD, take, drop}
 use Rattle.sector.specs.Byte.{offsetOf}
 use Rattle.sector.specs.Fit.{fitOf, sectorOf}
 use Rattle.sector.specs.Scan.{blankFit}
 use Rattle.sector.specs.declared.fits.Fit.{Fit}
-use Rattle.summary.specs.Page.{sectorEnd, part, fitsOf, bytesOf, pageScanOf, scanned}
+use Rattle.summary.specs.Page.{dataOf, part, fitsOf, bytesOf, pageScanOf, scanned}
 use Rattle.summary.specs.Replace.{replaced, storedAfter, shiftedAfter}
 
 pub record State : Type 0 where
@@ -43,20 +43,35 @@ pub record Fresh (number : ℕ) (t : State) : Type 0 where
   pub bytes : t .shifted ≡ bytesOf number (t .stored)
   pub kept : t .fits ≡ fitsOf number (t .stored)
 
+-- page, shifted bytes and fits have their lengths, whatever they hold
+pub record Whole (t : State) : Type 0 where
+  pub page : length (t .stored) ≡ 4096
+  pub bytes : length (t .shifted) ≡ 4080
+  pub eight : length (t .fits) ≡ 8
+
 -- a replacement that is accepted: checks 1, 2 and 14 pass
 pub record Taken (t : State) (r : Replacement) : Type 0 where
   pub whole : length (t .stored) ≡ 4096
   pub buffer : length (t .shifted) ≡ 4080
   pub within : r .sector < 8
-  pub sized : length (r .new) ≡ sectorEnd (r .sector) - r .sector * 512
+  pub sized : length (r .new) ≡ 512
 
--- from t to u one sector alone changed: its fit, shifted bytes and stored bytes are those of the new bytes, and all else is as it was
+-- the bytes 512 s to 512 s + 511 of a stored page: of sector 7 data and trailer
+unfoldable pub sectorAt : ℕ → List ℕ → List ℕ
+sectorAt s stored = take 512 (drop (s * 512) stored)
+
+-- from t to u one sector alone changed: its stored bytes are the new ones, its fit and shifted bytes those of their data, and all else is as it was
 pub record OneSector (number : ℕ) (r : Replacement) (t u : State) : Type 0 where
-  pub fit-new : getD (u .fits) (r .sector) blankFit ≡ fitOf (offsetOf number (r .sector)) (r .new)
-  pub shifted-new : part (r .sector) (u .shifted) ≡ sectorOf (offsetOf number (r .sector)) (r .new)
-  pub stored-new : part (r .sector) (u .stored) ≡ r .new
+  pub fit-new : getD (u .fits) (r .sector) blankFit ≡ fitOf (offsetOf number (r .sector)) (dataOf (r .sector) (r .new))
+  pub shifted-new : part (r .sector) (u .shifted) ≡ sectorOf (offsetOf number (r .sector)) (dataOf (r .sector) (r .new))
+  pub stored-new : sectorAt (r .sector) (u .stored) ≡ r .new
+  pub trailer-new : r .sector ≡ 7 → drop 4080 (u .stored) ≡ drop 496 (r .new)
   pub fits-kept : (k : ℕ) → (k ≡ r .sector → ⊥) → getD (u .fits) k blankFit ≡ getD (t .fits) k blankFit
   pub shifted-kept : (k : ℕ) → k < 8 → (k ≡ r .sector → ⊥) → part k (u .shifted) ≡ part k (t .shifted)
-  pub stored-kept : (k : ℕ) → k < 8 → (k ≡ r .sector → ⊥) → part k (u .stored) ≡ part k (t .stored)
-  pub trailer-kept : drop 4080 (u .stored) ≡ drop 4080 (t .stored)
-  pub lengths-kept : (length (u .fits) ≡ 8) × (length (u .shifted) ≡ 4080) × (length (u .stored) ≡ 4096)
+  pub stored-kept : (k : ℕ) → k < 8 → (k ≡ r .sector → ⊥) → sectorAt k (u .stored) ≡ sectorAt k (t .stored)
+  pub trailer-kept : r .sector < 7 → drop 4080 (u .stored) ≡ drop 4080 (t .stored)
+  pub lengths-kept : Whole u
+
+-- sectors of another page, in any order, as replacements
+unfoldable pub sectorsOf : List ℕ → List ℕ → List Replacement
+sectorsOf other order = map (λ (s : ℕ). record { sector = s; new = sectorAt s other }) order

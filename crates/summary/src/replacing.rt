@@ -1,13 +1,12 @@
-// The replacement of one sector of a stored page, with its summary kept up to date.
+// The replacement of one sector of a stored page, the last with its trailer, and the summary kept up to date.
 ghost use mathlib.Core.Path.{_≡_};
-ghost use Prim.Native.Nat.{_*_, _-_, _<_};
+ghost use Prim.Native.Nat.{_*_, _<_};
 ghost use lib.ListN.{length, set};
 ghost use Rattle.lists.specs.Pieces.{over};
 ghost use Rattle.sector.specs.Byte.{offsetOf};
 ghost use Rattle.sector.specs.Fit.{fitOf, sectorOf};
-ghost use Rattle.summary.specs.Page.{sectorEnd};
+ghost use Rattle.summary.specs.Page.{dataOf};
 ghost use Rattle.summary.specs.Replace.{Renews};
-use crate::pages::sector_end;
 use crate::rescan::rescan;
 use answers::Answer;
 use sector::Fit;
@@ -18,7 +17,8 @@ pub struct Changed {
     pub fits: [Fit; 8],
 }
 
-// `new` takes the place of a sector's bytes, and the summary follows: one sector is scanned, not eight. A refusal changes nothing.
+// `new` takes the place of a sector's 512 bytes, of sector 7 data and trailer, and the summary follows: one sector is scanned, not eight.
+// What the trailer says is left to the decoding. A refusal changes nothing.
 pub fn replace_sector(
     number: u64,
     sector: usize,
@@ -43,15 +43,7 @@ pub fn replace_sector(
             fits,
         };
     }
-    if sector > 7 {
-        return Changed {
-            answer: Answer::BadReplacement(sector),
-            fits,
-        };
-    }
-    let start = sector * 512;
-    let end = sector_end(sector);
-    if new.len() != end - start {
+    if sector > 7 || new.len() != 512 {
         return Changed {
             answer: Answer::BadReplacement(sector),
             fits,
@@ -72,13 +64,12 @@ fn put_sector(
     shifted: &mut [u8],
     fits: [Fit; 8],
 ) -> [Fit; 8]
-    requires { ⌜ (sector < 8) × (length (now new) ≡ sectorEnd sector - sector * 512) × (length (now stored) ≡ 4096) × (length (now shifted) ≡ 4080) ⌝ }
-    ensures { λ r. ⌜ r ≡ set fits sector (fitOf (offsetOf number sector) (now (new .entry))) ⌝ }
+    requires { ⌜ (sector < 8) × (length (now new) ≡ 512) × (length (now stored) ≡ 4096) × (length (now shifted) ≡ 4080) ⌝ }
+    ensures { λ r. ⌜ r ≡ set fits sector (fitOf (offsetOf number sector) (dataOf sector (now (new .entry)))) ⌝ }
     ensures { λ r. ⌜ now (stored .exit) ≡ over (now (stored .entry)) (sector * 512) (now (new .entry)) ⌝ }
-    ensures { λ r. ⌜ now (shifted .exit) ≡ over (now (shifted .entry)) (sector * 512) (sectorOf (offsetOf number sector) (now (new .entry))) ⌝ }
+    ensures { λ r. ⌜ now (shifted .exit) ≡ over (now (shifted .entry)) (sector * 512) (sectorOf (offsetOf number sector) (dataOf sector (now (new .entry)))) ⌝ }
 {
     let start = sector * 512;
-    let end = sector_end(sector);
-    numbers::copy(new, &mut stored[start..end]);
+    numbers::copy(new, &mut stored[start..start + 512]);
     rescan(number, sector, 1, stored, shifted, fits)
 }

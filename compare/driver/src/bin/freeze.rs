@@ -2,12 +2,12 @@
 //! has no counterpart (lengths of lent buffers, replacement, row numbers, limits out of range) from documents 01 and 02, and tied steps from the
 //! count behind its ap.rs. A question is taken where it shows something that none before it does: a function's answer or reason, a source with
 //! its confidence, a row of evidence, a kind of warning, a type of page; at another search limit, that this decides whether a page is accepted;
-//! and, on pages that are made for it, how many steps tied, or where a directory lies and how long it is.
+//! and, on pages that are made for it, how many steps tied, where a directory lies and how long it is, or which sector comes to it.
 use std::collections::BTreeSet;
 use std::fs::write;
 use std::path::Path;
 
-use compare::kinds::{Case, case, recrc};
+use compare::kinds::{Case, Replacement, case, fits_sector, recrc};
 use compare::layouts;
 use compare::limits::{self, Class, GREATEST, OUTSIDE, USUAL};
 use compare::plan::{DATA, Plan, put, triangular};
@@ -118,6 +118,7 @@ fn main() {
     }
     ties().iter().for_each(|case| whole_page(case, &mut frozen));
     wide().iter().for_each(|case| page_and_rows(case, &mut frozen));
+    trailers().iter().for_each(|case| whole_page(case, &mut frozen));
     too_many(&case(seed, 0), &mut frozen);
     println!("{} questions, which show {} things", frozen.questions, frozen.shown.len());
     write(Path::new(folder).join("stdin"), frozen.stdin).expect("FOLDER/stdin can be written");
@@ -174,45 +175,104 @@ fn refused(number: u8, value: usize) -> Refusal {
 const TIES: &str = "ties";
 const PAST: &str = "a directory past 0x300";
 const MOST: &str = "the most slots";
+const TRAILERS: &str = "trailers";
 
 fn made(kind: &'static str, bits: u8, limit: usize, page: Vec<u8>) -> Case {
     Case { kind, number: 9, page, bits, anchors: Vec::new(), bv: 0, plain: None, replacements: Vec::new(), limit, outside: OUTSIDE[0] }
 }
 
-/// A page of exact sectors, to which come three: all steps tie in 512 and in 496 bytes, and two do. And the page that has them all.
-fn ties() -> [Case; 2] {
+/// A sector as a page has it, sector 7 with the trailer.
+fn sector_of(page: &[u8], s: usize) -> Replacement {
+    (s, page[s * 512..][..512].to_vec())
+}
+
+/// Zeros, and a trailer that is right.
+fn blank() -> Vec<u8> {
     let mut page = vec![0; 4096];
     page[0xFF2] = b'E';
     recrc(&mut page);
+    page
+}
+
+/// A page of exact sectors, to which come three: all steps tie in 512 and in 496 bytes, and two do. And the page that has them all.
+fn ties() -> [Case; 2] {
+    let page = blank();
     let two_tie = [vec![0; 256], (0..=255).collect()].concat();
-    let replacements = vec![(0, triangular(512)), (3, two_tie), (7, triangular(496))];
+    let last = [&triangular(496), &page[DATA..]].concat();
+    let replacements = vec![(0, triangular(512)), (3, two_tie), (7, last)];
     let exact = Case { replacements, ..made(TIES, 7, USUAL, page) };
-    let mut tied = Case { replacements: Vec::new(), ..exact.clone() };
-    for (sector, bytes) in &exact.replacements {
-        tied.page[sector * 512..][..bytes.len()].copy_from_slice(bytes);
-    }
+    let mut tied = Case { page: exact.replaced_page(), replacements: Vec::new(), ..exact.clone() };
     recrc(&mut tied.page);
     [exact, tied]
+}
+
+/// Zeros and such slots; no sector is exact.
+fn with_slots(start: usize, count: usize, fall: usize) -> Plan {
+    let mut plan = Plan { number: 9, data: vec![0; DATA], steps: [3, 250, 17, 128, 0, 91, 7, 200], bv: 0x5A, trailer: [0; 12], off: 0 };
+    (0..8).for_each(|s| plan.sector(s)[300] = 1);
+    put_slots(&mut plan, start, count, fall);
+    plan
+}
+
+fn put_slots(plan: &mut Plan, start: usize, count: usize, fall: usize) {
+    (0..count).for_each(|k| put(&mut plan.data, start + 2 * k, (0xFE0 - fall * k) as u16));
 }
 
 /// 40 slots behind a prelude at 0x400, which alone speak for the bv, since no sector is exact; and the most slots that a search can find. A sector of
 /// each is replaced by the bytes that it has.
 fn wide() -> [Case; 2] {
-    let with_slots = |start: usize, count: usize, fall: usize| {
-        let mut plan = Plan { number: 9, data: vec![0; DATA], steps: [3, 250, 17, 128, 0, 91, 7, 200], bv: 0x5A, trailer: [0; 12], off: 0 };
-        (0..8).for_each(|s| plan.sector(s)[300] = 1);
-        (0..count).for_each(|k| put(&mut plan.data, start + 2 * k, (0xFE0 - fall * k) as u16));
-        plan
-    };
     let (mut past, most) = (with_slots(0x404, 40, 7), with_slots(0, 1_024, 1));
     put(&mut past.data, 0x400, 40);
     past.rows(40);
     let case = |(kind, plan): (&'static str, Plan)| {
         let page = plan.stored();
-        let replacements = vec![(5, page[5 * 512..][..512].to_vec())];
+        let replacements = vec![sector_of(&page, 5)];
         Case { bv: plan.bv, plain: Some(plan.plain()), replacements, ..made(kind, 2, GREATEST, page) }
     };
     [(PAST, past), (MOST, most)].map(case)
+}
+
+/// A directory of 5 rows, and in sector 1 one of 9 that reads under another bv: the row count, which is 5, says which is taken.
+fn two_directories() -> Plan {
+    let mut plan = with_slots(0x44, 5, 0x100);
+    put(&mut plan.data, 0x40, 5);
+    put_slots(&mut plan, 0x244, 9, 0x100);
+    put(&mut plan.data, 0x240, 9);
+    plan.sector(1).iter_mut().for_each(|b| *b = b.wrapping_add(0x40));
+    plan.rows(5);
+    plan
+}
+
+/// A page that lost sectors 3 and 7: either comes back first, and sector 7 in lengths that are refused. The whole page, to which comes a trailer with
+/// the row count of its other directory, one with a reserved byte set, one with a wrong CRC. And a blank page, to whose trailer come zeros.
+fn trailers() -> [Case; 5] {
+    let whole = two_directories().stored();
+    let without = |lost: &[usize]| {
+        let mut page = whole.clone();
+        lost.iter().for_each(|s| page[s * 512..][..512].fill(0xFF));
+        page
+    };
+    let last = |change: fn(&mut Plan)| {
+        let mut plan = two_directories();
+        change(&mut plan);
+        sector_of(&plan.stored(), 7)
+    };
+    let [third, seventh] = [3, 7].map(|s| sector_of(&whole, s));
+    let resized = |n: usize| (7, [&seventh.1[..], &[0]].concat()[..n].to_vec());
+    let unfit = [0, 495, 496, 511, 513].map(resized);
+    let cases = [
+        (without(&[3, 7]), [&unfit[..], &[third.clone(), seventh.clone()]].concat()),
+        (without(&[3]), vec![third]),
+        (without(&[7]), vec![seventh]),
+        (whole.clone(), vec![last(|p| p.rows(9)), last(|p| p.trailer[3] = 1), last(|p| p.off = 1)]),
+        (blank(), vec![(7, vec![0; 512])]),
+    ];
+    cases.map(|(page, replacements)| Case { replacements, ..made(TRAILERS, 0, USUAL, page) })
+}
+
+/// All bytes of such a page: a CRC is the same for all that have theirs right.
+fn of_trailers(case: &Case, asked: &str) -> Option<String> {
+    (case.kind == TRAILERS).then(|| format!("{asked} of {}", hex(&case.page)))
 }
 
 /// How many steps tied. Other pages have ties that show nothing new.
@@ -269,7 +329,7 @@ fn whole_page(case: &Case, frozen: &mut Frozen) {
     }
 
     let answer = reading.decode(&case.anchors, case.bits, USUAL);
-    let shows = decoding_shows(case, &answer);
+    let shows = decoding_shows(case, &answer).into_iter().chain(of_trailers(case, "decoding")).collect();
     frozen.take(about(Asked::Decoding, case, page), Expected { line: decoding_line(&answer, 4096), shows });
     let other = reading.decode(&case.anchors, case.bits, case.limit);
     frozen.take_at_limits(about(Asked::Decoding, case, page), standing(&answer), [&answer, &other], |a| decoding_line(a, 4096));
@@ -357,7 +417,7 @@ fn warned(warnings: &[Warning]) -> impl Iterator<Item = String> {
 
 /// The page scanned, a sector replaced, the page decoded from the summary: what a fresh reading of the final page gives.
 fn replacement(case: &Case, sector: usize, bytes: &[u8], before: &Reading<'_>, frozen: &mut Frozen) {
-    let fitting = sector < 8 && bytes.len() == if sector == 7 { 496 } else { 512 };
+    let fitting = fits_sector(sector, bytes);
     let mut page = case.page.clone();
     if fitting {
         page[sector * 512..][..bytes.len()].copy_from_slice(bytes);
@@ -368,7 +428,8 @@ fn replacement(case: &Case, sector: usize, bytes: &[u8], before: &Reading<'_>, f
     let [usual, other] = [USUAL, case.limit].map(|limit| after.decode(&case.anchors, case.bits, limit));
     let before = hex(&layouts::fits(refusal.as_ref(), &fits)) + &crc(&page) + &crc(&shifted) + " ";
     let line = |decoded: &Result<Decoded, Refusal>| before.clone() + &decoding_line(decoded, 4096);
-    let shows = [format!("fitting {fitting} sector {sector}"), number(&usual)].into_iter().chain(tied(case, &fits)).collect();
+    let of_kind = tied(case, &fits).into_iter().chain(of_trailers(case, &format!("sector {sector} {}", hex(bytes))));
+    let shows = [format!("fitting {fitting} sector {sector}"), number(&usual)].into_iter().chain(of_kind).collect();
     let question = Question { place: sector, bytes, room: 4080, ..about(Asked::Replacement, case, &case.page) };
     frozen.take(question, Expected { line: line(&usual), shows });
     frozen.take_at_limits(question, standing(&usual), [&usual, &other], line);

@@ -1,14 +1,14 @@
 -- `replace_sector` meets its contract: one outcome for each answer.
-use Prim.Native.Nat.{ℕ, _-_, _*_}
-use mathlib.Core.Path.{_≡_, sym, ap, _∙_}
+use mathlib.Core.Path.{ap, _∙_}
 use mathlib.Core.List.{List}
+use mathlib.Core.Logic.{⊎-elim}
 use native.Mathlib.Omega.{arith}
+use borrow.Author.Tests.{eqb-true, eqb-false, not-true, not-false}
 use denote.Ref.{now}
 use lib.ListN.{length}
 use Rattle.answers.specs.declared.kinds.Answer.{Answer}
 use Rattle.answers.specs.declared.kinds.Answer.the-variants.{Accepted, WrongPageLength, WrongBufferLength, BadReplacement}
 use Rattle.sector.specs.declared.fits.Fit.{Fit}
-use Rattle.summary.specs.Page.{sectorEnd}
 use Rattle.summary.proofs.Outcomes.{replace-page, replace-room, replace-sector, replace-size, replace-good, replace-answer, replace-stored, replace-shifted}
 use borrow.Author.Needs.{needs}
 use Rattle.summary.proofs.replacing.replace_sector.Statement.{statement}
@@ -44,35 +44,30 @@ returns-3 c =
     let n = length (now (a .stored)) in
     let m = length (now (a .shifted)) in
     let x : Answer = BadReplacement (a .sector) in
-    let w = replace-sector (a .sector) (now (a .new)) n m (c .before .before .if1 .left) (c .before .if2 .left) (omega arith) in (
+    let i = c .before .before .if1 .left in
+    let j = c .before .if2 .left in
+    let w =
+    ⊎-elim (λ q. replace-sector (a .sector) (now (a .new)) n m i j (omega (arith, q .taken)))
+    (λ q. replace-size (a .sector) (now (a .new)) n m i j (omega (arith, q .0 .left)) (eqb-false _ 512 (not-true _ (q .1 .taken))))
+    (c .if3 .came) in (
       replace-answer (a .number) (a .sector) (now (a .new)) (now (a .stored)) (now (a .shifted)) (a .fits) x w,
       replace-stored (a .number) (a .sector) (now (a .new)) (now (a .stored)) (now (a .shifted)) (a .fits) x w,
       replace-shifted (a .number) (a .sector) (now (a .new)) (now (a .stored)) (now (a .shifted)) (a .fits) x w,
     )
+
+put-sector-requires : tie.Need-put-sector-requires
+put-sector-requires c κs =
+    let d = c .before .before in
+    (omega (arith, d .before .if3 .left), eqb-true _ 512 (not-false _ (d .if4 .left)), search needs, search needs)
 
 returns-4 : tie.Need-returns-4
 returns-4 c =
-    let a = c .before .before .before .before .before .before .before .before .args in
-    let n = length (now (a .stored)) in
-    let m = length (now (a .shifted)) in
-    let ne : length (now (a .new)) ≡ sectorEnd (a .sector) - a .sector * 512 → ⊥ =
-    λ q. c .if4 .taken (q ∙ ap (λ (e : ℕ). e - a .sector * 512) (sym (c .before .sector-end .ensures))) in
-    let x : Answer = BadReplacement (a .sector) in
-    let w = replace-size (a .sector) (now (a .new)) n m (c .before .before .before .before .if1 .left) (c .before .before .before .if2 .left) (omega arith) ne in (
-      replace-answer (a .number) (a .sector) (now (a .new)) (now (a .stored)) (now (a .shifted)) (a .fits) x w,
-      replace-stored (a .number) (a .sector) (now (a .new)) (now (a .stored)) (now (a .shifted)) (a .fits) x w,
-      replace-shifted (a .number) (a .sector) (now (a .new)) (now (a .stored)) (now (a .shifted)) (a .fits) x w,
-    )
-
-returns-5 : tie.Need-returns-5
-returns-5 c =
     let d = c .before .before .before .before .before .before .before in
-    let a = d .before .before .before .before .before .before .before .before .args in
+    let a = d .before .before .before .before .before .before .before .args in
     let n = length (now (a .stored)) in
     let m = length (now (a .shifted)) in
     let s = a .sector in
-    let e : length (now (a .new)) ≡ sectorEnd s - s * 512 = d .if4 .left ∙ ap (λ (x : ℕ). x - s * 512) (d .before .sector-end .ensures) in
-    let w = replace-good s (now (a .new)) n m (d .before .before .before .before .if1 .left) (d .before .before .before .if2 .left) (omega arith) e in
+    let w = replace-good s (now (a .new)) n m (d .before .before .before .if1 .left) (d .before .before .if2 .left) (omega (arith, d .before .if3 .left)) (eqb-true _ 512 (not-false _ (d .if4 .left))) in
     let put = c .before .before .before .before .put-sector in (
       ap (λ (fs : List Fit). record { answer = Accepted; fits = fs }) (put .ensures .0)
           ∙ replace-answer (a .number) s (now (a .new)) (now (a .stored)) (now (a .shifted)) (a .fits) Accepted w,
@@ -87,11 +82,7 @@ replace-sector-spec =
     returns
     returns-2
     returns-3
-    (λ c. search needs)
-    (λ c κs. search needs)
-    (λ c. search needs)
-    returns-4
-    (λ c κs. search needs)
+    put-sector-requires
     (λ c. search needs)
     (λ c. search needs)
-    returns-5)
+    returns-4)
