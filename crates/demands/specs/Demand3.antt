@@ -1,23 +1,23 @@
 -- DEMAND 3: after any sequence of replacements, repeats and refused ones included, the kept summary, and the decodings made from it with the
 -- same anchors and options, are those of the final page read afresh; on an alien summary a replacement changes nothing of the other seven
--- sectors. The contracts of `decode_summary` and `decode_page` are the two sides. Assumes nothing.
-use Prim.Native.Nat.{ℕ, _*_, _<_}
+-- sectors; and all eight sectors of another page make page and summary that page's. The contracts of `decode_summary` and `decode_page` are
+-- the two sides of the first. Assumes nothing.
+use Prim.Native.Nat.{ℕ, _*_}
 use mathlib.Core.Path.{_≡_}
-use mathlib.Core.Bool.{true}
 use mathlib.Core.List.{List, [], _∷_}
 use lib.ListN.{length}
-use Rattle.lists.specs.Counts.{isIn}
 use Rattle.lists.specs.Pieces.{over}
 use Rattle.answers.specs.declared.settings.Options.{Options}
 use Rattle.summary.specs.Replace.{ifReplaced}
-use Rattle.summary.specs.State.{State, Replacement, Whole, Taken, OneSector, atScan, after, afterAll, sectorsOf}
+use Rattle.summary.specs.State.{State, Replacement, Whole, AllEight, Taken, OneSector, atScan, after, afterAll, sectorsFrom}
 use Rattle.verdict.specs.declared.Decoding.{Decoding}
 use Rattle.decode.specs.Decode.{decodingOf, suppliedDecodingOf, writtenOf}
 use Rattle.demands.specs.Demand2.{readPage, readWith, leftIn}
 
 -- ---- a page of which sectors are replaced, one after the other, with no summary beside it
 
--- "It writes them into the lent stored page"; one that is refused beside a page and a buffer of the right lengths changes nothing
+-- "It writes them into the lent stored page", and of sector 7 "496 are data and 16 become the trailer"; one that is refused beside a page and a
+-- buffer of the right lengths changes nothing
 unfoldable pub editedBy : List ℕ → Replacement → List ℕ
 editedBy stored r = ifReplaced (r .sector) (r .new) 4096 4080 (over stored (r .sector * 512) (r .new)) stored
 
@@ -50,9 +50,8 @@ pub record KeptFresh : Type 0 where
   pub others : (number : ℕ) (t : State) (r : Replacement) → Taken t r → length (t .fits) ≡ 8 → OneSector number r t (after number t r)
   -- and all eight sectors of another page, in any order, repeats included, make page and summary that page's
   pub exchanged :
-      (number : ℕ) (t : State) (other buffer order : List ℕ)
+      (number : ℕ) (t : State) (other order buffer : List ℕ)
       → Whole t
-      → length other ≡ 4096
+      → AllEight other order
       → length buffer ≡ 4080
-      → ((k : ℕ) → k < 8 → isIn k order ≡ true)
-      → afterAll number t (sectorsOf other order) ≡ atScan number other buffer
+      → afterAll number t (sectorsFrom other order) ≡ atScan number other buffer

@@ -1,4 +1,5 @@
--- Laws of the sectors of a page: lists of one piece for each sector, and a page of which one sector is written over. Assumes nothing.
+-- Laws of the sectors of a page: lists of one piece for each sector, all 512 bytes of a sector, and a page of which one sector is written over.
+-- Assumes nothing.
 use Prim.Native.Nat.{ℕ, zero, suc, _+_, _-_, _*_, _≤_, _<_, min}
 use mathlib.Core.Path.{_≡_, refl, sym, ap, ap₂, _∙_}
 use mathlib.Core.List.{List, _++_}
@@ -14,7 +15,9 @@ use Rattle.lists.proofs.Over.{over-here, over-before, over-after, over-last, ov
 use Rattle.summary.specs.Page.{sectorEnd, dataOf, part}
 use Rattle.summary.specs.State.{sectorAt}
 
--- sector s of a list that is long enough
+-- ---- the data of a sector
+
+-- of a list that is long enough
 pub part-length : (l : List ℕ) (s : ℕ) → 4080 ≤ length l → length (part s l) ≡ sectorEnd s - s * 512
 unfolding part
 part-length l s h = simp (length-take, length-drop) (omega arith)
@@ -83,9 +86,9 @@ joined-over f g (suc n) s z k hs hn h = go (joined-over f g n s z k) (ℕ-discre
 
 -- ---- all 512 bytes of a sector
 
-pub sector-length : (l : List ℕ) (s : ℕ) → length l ≡ 4096 → s < 8 → length (sectorAt s l) ≡ 512
+pub sector-size : (l : List ℕ) (s : ℕ) → length l ≡ 4096 → s < 8 → length (sectorAt s l) ≡ 512
 unfolding sectorAt
-sector-length l s h k = simp (length-take, length-drop) (omega arith)
+sector-size l s h k = simp (length-take, length-drop) (omega arith)
 
 -- the data are the first of them
 pub sector-data : (l : List ℕ) (s : ℕ) → dataOf s (sectorAt s l) ≡ part s l
@@ -150,3 +153,11 @@ module _ (l new : List ℕ) (s : ℕ) (room : s * 512 + length new ≤ length l)
   pub sector-other : length new ≤ 512 → (t : ℕ) → (t ≡ s → ⊥) → sectorAt t written ≡ sectorAt t l
   unfolding sectorAt
   sector-other few t ne = piece-other few t 512 (omega arith) ne
+
+-- a stored page, of which all 512 bytes of sector s are
+module _ (l new : List ℕ) (s : ℕ) (hs : s < 8) (hp : length l ≡ 4096) (hn : length new ≡ 512) where
+  pub page-room : s * 512 + length new ≤ length l
+  page-room = omega arith
+
+  pub page-data : part s (over l (s * 512) new) ≡ dataOf s new
+  page-data = part-here l new s page-room (omega arith)

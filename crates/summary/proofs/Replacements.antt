@@ -23,7 +23,7 @@ use Rattle.summary.specs.Page.{sectorEnd, dataOf, part, fitAt, bytesAt, 
 use Rattle.summary.specs.Replace.{replaceAnswer, replaced, storedAfter, shiftedAfter}
 use Rattle.summary.specs.State.{State, Replacement, atScan, after, afterAll, Fresh, Taken, OneSector, sectorAt}
 use Rattle.summary.specs.declared.pages.PageScan.{PageScan}
-use Rattle.summary.proofs.Parts.{joined-over, part-here, part-other, sector-here, sector-other, trailer-of}
+use Rattle.summary.proofs.Parts.{joined-over, part-here, part-other, sector-here, sector-other, trailer-of, page-room, page-data}
 use Rattle.summary.proofs.Sectors.{bytes-length, bytes-sized}
 use Rattle.summary.proofs.Outcomes.{scan-good, replace-page, replace-room, replace-sector, replace-size, replace-good, scan-answer, scan-buffer, replace-answer, replace-stored, replace-shifted}
 
@@ -84,47 +84,47 @@ module _ (number : ℕ) (t : State) (r : Replacement) where
     s : ℕ
     s = r .sector
 
-    fresh-data : List ℕ
-    fresh-data = dataOf s (r .new)
+    new-data : List ℕ
+    new-data = dataOf s (r .new)
 
     ys : List ℕ
-    ys = sectorOf (offsetOf number s) fresh-data
+    ys = sectorOf (offsetOf number s) new-data
 
     long : length ys ≡ sectorEnd s - s * 512
-    unfolding ys fresh-data s
+    unfolding ys new-data s
     long = sector-length (offsetOf number s) (dataOf s (r .new)) ∙ length-take-le (sectorEnd s - s * 512) (r .new) (omega (arith, k .sized))
 
     bytes-room : s * 512 + length ys ≤ length (t .shifted)
     unfolding s
     bytes-room = omega (arith, long, k .within, k .buffer)
 
-    page-room : s * 512 + length (r .new) ≤ length (t .stored)
+    stored-room : s * 512 + length (r .new) ≤ length (t .stored)
     unfolding s
-    page-room = omega (arith, k .within, k .sized, k .whole)
+    stored-room = page-room (t .stored) (r .new) (r .sector) (k .within) (k .whole) (k .sized)
 
     -- the trailer is the end of sector 7
     trailer-new : s ≡ 7 → drop 4080 (over (t .stored) (s * 512) (r .new)) ≡ drop 496 (r .new)
     unfolding s
     trailer-new e =
         let page : List ℕ = over (t .stored) (s * 512) (r .new) in
-        trailer-of page (over-length (t .stored) (r .new) (s * 512) page-room ∙ k .whole)
-        ∙ ap (drop 496) (ap (λ (j : ℕ). sectorAt j page) (sym e) ∙ sector-here (t .stored) (r .new) s page-room (k .sized))
+        trailer-of page (over-length (t .stored) (r .new) (s * 512) stored-room ∙ k .whole)
+        ∙ ap (drop 496) (ap (λ (j : ℕ). sectorAt j page) (sym e) ∙ sector-here (t .stored) (r .new) s stored-room (k .sized))
 
     put-one : OneSector number r t (put number t r)
-    unfolding ys fresh-data s
+    unfolding ys new-data s
     put-one =
         record {
-          fit-new = getD-set-same (t .fits) s (fitOf (offsetOf number s) fresh-data) blankFit (omega (arith, k .within));
+          fit-new = getD-set-same (t .fits) s (fitOf (offsetOf number s) new-data) blankFit (omega (arith, k .within));
           shifted-new = part-here (t .shifted) ys s bytes-room (omega (arith, long)) ∙ take-all (sectorEnd s - s * 512) ys (omega (arith, long));
-          stored-new = sector-here (t .stored) (r .new) s page-room (k .sized);
+          stored-new = sector-here (t .stored) (r .new) s stored-room (k .sized);
           trailer-new = trailer-new;
-          fits-kept = λ j ne. getD-set-other (t .fits) s j (fitOf (offsetOf number s) fresh-data) blankFit ne;
+          fits-kept = λ j ne. getD-set-other (t .fits) s j (fitOf (offsetOf number s) new-data) blankFit ne;
           shifted-kept = λ j q ne. part-other (t .shifted) ys s bytes-room (omega (arith, long)) j ne;
-          stored-kept = λ j q ne. sector-other (t .stored) (r .new) s page-room (omega (arith, k .sized)) j ne;
-          trailer-kept = λ q. over-after (t .stored) (r .new) (s * 512) page-room 4080 (omega (arith, q, k .sized));
+          stored-kept = λ j q ne. sector-other (t .stored) (r .new) s stored-room (omega (arith, k .sized)) j ne;
+          trailer-kept = λ q. over-after (t .stored) (r .new) (s * 512) stored-room 4080 (omega (arith, q, k .sized));
           lengths-kept =
               record {
-                page = over-length (t .stored) (r .new) (s * 512) page-room ∙ k .whole;
+                page = over-length (t .stored) (r .new) (s * 512) stored-room ∙ k .whole;
                 bytes = over-length (t .shifted) ys (s * 512) bytes-room ∙ k .buffer;
                 eight = length-set (t .fits) s _ ∙ h;
               };
@@ -139,10 +139,10 @@ module _ (number : ℕ) (stored new : List ℕ) (s : ℕ) (hs : s < 8) (hp : len
   other = over stored (s * 512) new
 
   room : s * 512 + length new ≤ length stored
-  room = omega arith
+  room = page-room stored new s hs hp hn
 
   here : dataOf s new ≡ part s other
-  here = sym (part-here stored new s room (omega arith))
+  here = sym (page-data stored new s hs hp hn)
 
   kept : (t : ℕ) → (t ≡ s → ⊥) → part t stored ≡ part t other
   kept t ne = sym (part-other stored new s room (omega arith) t ne)
@@ -169,7 +169,7 @@ fresh-after number t r f =
     fresh k =
         let s : ℕ = r .sector in
         record {
-          whole = over-length (t .stored) (r .new) (s * 512) (omega (arith, k .within, k .sized, k .whole)) ∙ k .whole;
+          whole = over-length (t .stored) (r .new) (s * 512) (page-room (t .stored) (r .new) s (k .within) (k .whole) (k .sized)) ∙ k .whole;
           bytes =
               ap (λ (l : List ℕ). over l (s * 512) (sectorOf (offsetOf number s) (dataOf s (r .new)))) (f .bytes)
               ∙ bytes-agree number (t .stored) (r .new) s (k .within) (k .whole) (k .sized);

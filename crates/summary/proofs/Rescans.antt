@@ -15,7 +15,7 @@ use Rattle.sector.specs.Scan.{sectorFit, sectorOut}
 use Rattle.sector.specs.declared.fits.Fit.{Fit}
 use Rattle.summary.specs.Page.{sectorEnd, dataOf, part, fitAt, bytesAt, fitsOf, bytesOf}
 use Rattle.summary.specs.Rescan.{refitted, reshifted}
-use Rattle.summary.proofs.Parts.{part-here}
+use Rattle.summary.proofs.Parts.{page-data}
 use Rattle.summary.proofs.Sectors.{bytes-length, fit-scans, bytes-scan}
 
 module _ (number : ℕ) (stored : List ℕ) (first : ℕ) where
@@ -124,17 +124,14 @@ module _ (number : ℕ) (stored : List ℕ) where
 
 -- a single one, of a page that has just been written over there
 module _ (number : ℕ) (stored new : List ℕ) (s : ℕ) (hs : s < 8) (hp : length stored ≡ 4096) (hn : length new ≡ 512) where
-  here : part s (over stored (s * 512) new) ≡ dataOf s new
-  here = part-here stored new s (omega arith) (omega arith)
-
   pub refitted-one : (fits : List Fit) → refitted number (over stored (s * 512) new) s fits 1 ≡ set fits s (fitOf (offsetOf number s) (dataOf s new))
   unfolding refitted fitAt
   refitted-one fits =
       ap (λ (k : ℕ). set fits k (fitOf (offsetOf number k) (part k (over stored (s * 512) new)))) (add-zero s)
-      ∙ ap (λ (l : List ℕ). set fits s (fitOf (offsetOf number s) l)) here
+      ∙ ap (λ (l : List ℕ). set fits s (fitOf (offsetOf number s) l)) (page-data stored new s hs hp hn)
 
   pub reshifted-one : (shifted : List ℕ) → reshifted number (over stored (s * 512) new) s shifted 1 ≡ over shifted (s * 512) (sectorOf (offsetOf number s) (dataOf s new))
   unfolding reshifted bytesAt
   reshifted-one shifted =
       ap (λ (k : ℕ). over shifted (k * 512) (sectorOf (offsetOf number k) (part k (over stored (s * 512) new)))) (add-zero s)
-      ∙ ap (λ (l : List ℕ). over shifted (s * 512) (sectorOf (offsetOf number s) l)) here
+      ∙ ap (λ (l : List ℕ). over shifted (s * 512) (sectorOf (offsetOf number s) l)) (page-data stored new s hs hp hn)

@@ -19,8 +19,8 @@ use Rattle.sector.specs.Byte.{offsetOf}
 use Rattle.sector.specs.Fit.{fitOf, sectorOf}
 use Rattle.sector.specs.Scan.{blankFit}
 use Rattle.summary.specs.Page.{part, fitAt, bytesAt, fitsOf, bytesOf}
-use Rattle.summary.specs.State.{State, Replacement, atScan, after, afterAll, Fresh, Taken, OneSector, Whole, sectorAt, sectorsOf}
-use Rattle.summary.proofs.Parts.{sector-length, sector-data, sector-part, sectors-whole}
+use Rattle.summary.specs.State.{State, atScan, after, afterAll, Fresh, Taken, OneSector, Whole, AllEight, sectorAt, sectorFrom, sectorsFrom}
+use Rattle.summary.proofs.Parts.{sector-size, sector-data, sector-part, sectors-whole}
 use Rattle.summary.proofs.Replacements.{taken-or-same, one-sector, fresh-is}
 
 module _ (number : ℕ) (other : List ℕ) where
@@ -30,11 +30,8 @@ module _ (number : ℕ) (other : List ℕ) where
     bytes : part k (t .shifted) ≡ bytesAt number other k
     fit : getD (t .fits) k blankFit ≡ fitAt number other k
 
-  abbrev from : ℕ → Replacement
-  from s = record { sector = s; new = sectorAt s other }
-
   -- the sector that is replaced comes to agree, and the others go on agreeing
-  replaced-agrees : (t u : State) (s : ℕ) → OneSector number (from s) t u → Agrees s u
+  replaced-agrees : (t u : State) (s : ℕ) → OneSector number (sectorFrom other s) t u → Agrees s u
   unfolding fitAt bytesAt
   replaced-agrees t u s c =
       record {
@@ -43,7 +40,7 @@ module _ (number : ℕ) (other : List ℕ) where
         fit = c .fit-new ∙ ap (fitOf (offsetOf number s)) (sector-data other s);
       }
 
-  still-agrees : (t u : State) (s k : ℕ) → k < 8 → OneSector number (from s) t u → Agrees k t → Agrees k u
+  still-agrees : (t u : State) (s k : ℕ) → k < 8 → OneSector number (sectorFrom other s) t u → Agrees k t → Agrees k u
   still-agrees t u s k h c a = go (ℕ-discrete k s)
     where
       go : Dec (k ≡ s) → Agrees k u
@@ -53,25 +50,25 @@ module _ (number : ℕ) (other : List ℕ) where
   -- one replacement, of a sector of the other page
   module _ (t : State) (w : Whole t) (s : ℕ) where
     abbrev next : State
-    next = after number t (from s)
+    next = after number t (sectorFrom other s)
 
-    one : Taken t (from s) → OneSector number (from s) t next
-    one k = one-sector number t (from s) k (w .eight)
+    one : Taken t (sectorFrom other s) → OneSector number (sectorFrom other s) t next
+    one k = one-sector number t (sectorFrom other s) k (w .eight)
 
     still-whole : Whole next
-    still-whole = ⊎-elim (λ k. one k .lengths-kept) (λ e. subst Whole (sym e) w) (taken-or-same number t (from s))
+    still-whole = ⊎-elim (λ k. one k .lengths-kept) (λ e. subst Whole (sym e) w) (taken-or-same number t (sectorFrom other s))
 
     agrees-after : (k : ℕ) → k < 8 → Agrees k t → Agrees k next
-    agrees-after k h a = ⊎-elim (λ c. still-agrees t next s k h (one c) a) (λ e. subst (Agrees k) (sym e) a) (taken-or-same number t (from s))
+    agrees-after k h a = ⊎-elim (λ c. still-agrees t next s k h (one c) a) (λ e. subst (Agrees k) (sym e) a) (taken-or-same number t (sectorFrom other s))
 
     agrees-at : length other ≡ 4096 → s < 8 → Agrees s next
-    agrees-at e h = replaced-agrees t next s (one (record { whole = w .page; buffer = w .bytes; within = h; sized = sector-length other s e h }))
+    agrees-at e h = replaced-agrees t next s (one (record { whole = w .page; buffer = w .bytes; within = h; sized = sector-size other s e h }))
 
   -- and any number of them: a sector agrees that did before, or is among them
-  whole-all : (order : List ℕ) (t : State) → Whole t → Whole (afterAll number t (sectorsOf other order))
-  unfolding afterAll sectorsOf
+  whole-all : (order : List ℕ) (t : State) → Whole t → Whole (afterAll number t (sectorsFrom other order))
+  unfolding afterAll sectorsFrom
   whole-all [] t w = w
-  whole-all (s ∷ order) t w = whole-all order (after number t (from s)) (still-whole t w s)
+  whole-all (s ∷ order) t w = whole-all order (after number t (sectorFrom other s)) (still-whole t w s)
 
   agrees-all :
       (order : List ℕ) (t : State)
@@ -80,15 +77,15 @@ module _ (number : ℕ) (other : List ℕ) where
       → (k : ℕ)
       → k < 8
       → Agrees k t ⊎ (isIn k order ≡ true)
-      → Agrees k (afterAll number t (sectorsOf other order))
-  unfolding afterAll sectorsOf isIn
+      → Agrees k (afterAll number t (sectorsFrom other order))
+  unfolding afterAll sectorsFrom isIn
   agrees-all [] t w e k h (inl a) = a
   agrees-all [] t w e k h (inr q) = absurd (never-both refl q)
-  agrees-all (s ∷ order) t w e k h (inl a) = agrees-all order (after number t (from s)) (still-whole t w s) e k h (inl (agrees-after t w s k h a))
-  agrees-all (s ∷ order) t w e k h (inr q) = agrees-all order (after number t (from s)) (still-whole t w s) e k h (go (ℕ-discrete k s))
+  agrees-all (s ∷ order) t w e k h (inl a) = agrees-all order (after number t (sectorFrom other s)) (still-whole t w s) e k h (inl (agrees-after t w s k h a))
+  agrees-all (s ∷ order) t w e k h (inr q) = agrees-all order (after number t (sectorFrom other s)) (still-whole t w s) e k h (go (ℕ-discrete k s))
     where
-      go : Dec (k ≡ s) → Agrees k (after number t (from s)) ⊎ (isIn k order ≡ true)
-      go (yes x) = inl (subst (λ (j : ℕ). Agrees j (after number t (from s))) (sym x) (agrees-at t w s e (subst (λ (j : ℕ). j < 8) x h)))
+      go : Dec (k ≡ s) → Agrees k (after number t (sectorFrom other s)) ⊎ (isIn k order ≡ true)
+      go (yes x) = inl (subst (λ (j : ℕ). Agrees j (after number t (sectorFrom other s))) (sym x) (agrees-at t w s e (subst (λ (j : ℕ). j < 8) x h)))
       go (no ne) = inr (ap (λ (b : Bool). pick b true (isIn k order)) (sym (ne-eqb k s ne)) ∙ q)
 
   -- what agrees in all eight is the other page, and its summary
@@ -112,12 +109,11 @@ module _ (number : ℕ) (other : List ℕ) where
 
 -- ALL EIGHT SECTORS of another page, in any order, with repeats: beside any summary, what is there afterwards is what a scan of that page makes
 pub whole-page :
-    (number : ℕ) (t : State) (other buffer order : List ℕ)
+    (number : ℕ) (t : State) (other order buffer : List ℕ)
     → Whole t
-    → length other ≡ 4096
+    → AllEight other order
     → length buffer ≡ 4080
-    → ((k : ℕ) → k < 8 → isIn k order ≡ true)
-    → afterAll number t (sectorsOf other order) ≡ atScan number other buffer
-whole-page number t other buffer order w e h every =
-    agrees-is number other (afterAll number t (sectorsOf other order)) (whole-all number other order t w) e
-    (λ k q. agrees-all number other order t w e k q (inr (every k q))) buffer h
+    → afterAll number t (sectorsFrom other order) ≡ atScan number other buffer
+whole-page number t other order buffer w a h =
+    agrees-is number other (afterAll number t (sectorsFrom other order)) (whole-all number other order t w) (a .whole)
+    (λ k q. agrees-all number other order t w (a .whole) k q (inr (a .every k q))) buffer h

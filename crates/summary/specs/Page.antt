@@ -18,7 +18,7 @@ use Rattle.summary.specs.declared.pages.PageScan.{PageScan}
 abbrev pub sectorEnd : ℕ → ℕ
 sectorEnd s = min (s * 512 + 512) 4080
 
--- the data among the bytes of sector s, which may have the trailer behind them; and those of a page, or of a page's shifted bytes
+-- the data among the bytes of sector s, behind which the trailer may stand; and the data of sector s of a page, or of a page's shifted bytes
 abbrev pub dataOf : ℕ → List ℕ → List ℕ
 dataOf s bytes = take (sectorEnd s - s * 512) bytes
 

@@ -1,8 +1,10 @@
 -- A stored page beside its summary, and what a list of replacements makes of them. Assumes nothing.
 use Prim.Native.Nat.{ℕ, _*_, _<_}
 use mathlib.Core.Path.{_≡_}
+use mathlib.Core.Bool.{true}
 use mathlib.Core.List.{List, [], _∷_, map}
 use lib.ListN.{length, getD, take, drop}
+use Rattle.lists.specs.Counts.{isIn}
 use Rattle.sector.specs.Byte.{offsetOf}
 use Rattle.sector.specs.Fit.{fitOf, sectorOf}
 use Rattle.sector.specs.Scan.{blankFit}
@@ -72,6 +74,14 @@ pub record OneSector (number : ℕ) (r : Replacement) (t u : State) : Type 0 whe
   pub trailer-kept : r .sector < 7 → drop 4080 (u .stored) ≡ drop 4080 (t .stored)
   pub lengths-kept : Whole u
 
--- sectors of another page, in any order, as replacements
-unfoldable pub sectorsOf : List ℕ → List ℕ → List Replacement
-sectorsOf other order = map (λ (s : ℕ). record { sector = s; new = sectorAt s other }) order
+-- a sector of another page as a replacement, and several, in any order
+abbrev pub sectorFrom : List ℕ → ℕ → Replacement
+sectorFrom other s = record { sector = s; new = sectorAt s other }
+
+unfoldable pub sectorsFrom : List ℕ → List ℕ → List Replacement
+sectorsFrom other order = map (sectorFrom other) order
+
+-- and all eight of them, repeats included
+pub record AllEight (other order : List ℕ) : Type 0 where
+  pub whole : length other ≡ 4096
+  pub every : (s : ℕ) → s < 8 → isIn s order ≡ true

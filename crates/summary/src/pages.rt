@@ -38,7 +38,7 @@ pub fn scan_page(number: u64, stored: &[u8], shifted: &mut [u8]) -> PageScan
     }
 }
 
-// Where sector `s` ends: the last one before the trailer.
+// Where the data of sector `s` end: those of the last one before the trailer.
 pub fn sector_end(s: usize) -> usize
     ensures { λ r. ⌜ r ≡ sectorEnd s ⌝ }
 {

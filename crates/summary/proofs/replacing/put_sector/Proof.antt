@@ -5,7 +5,6 @@ use mathlib.Core.List.{List, _++_}
 use native.Mathlib.Omega.{arith}
 use denote.Ref.{now}
 use lib.ListN.{length, take, drop}
-use Rattle.lists.specs.Pieces.{over}
 use Rattle.summary.specs.Rescan.{refitted, reshifted}
 use Rattle.numbers.proofs.Copies.{copied-part}
 use Rattle.summary.proofs.Rescans.{refitted-one, reshifted-one}
