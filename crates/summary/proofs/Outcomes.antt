@@ -12,7 +12,7 @@ use Rattle.sector.specs.Fit.{fitOf, sectorOf}
 use Rattle.sector.specs.declared.fits.Fit.{Fit}
 use Rattle.sector.specs.Scan.{blankFits}
 use Rattle.summary.specs.Page.{dataOf, fitsOf, bytesOf, checked, ifAccepted, pageScanOf, scanned}
-use Rattle.summary.specs.Replace.{replaceAnswer, replaced, storedAfter, shiftedAfter}
+use Rattle.summary.specs.Replace.{replaceAnswer, replaced, storedAfter, shiftedAfter, Renews}
 use Rattle.summary.specs.declared.pages.PageScan.{PageScan}
 use Rattle.summary.specs.declared.replacing.Changed.{Changed}
 
@@ -75,3 +75,9 @@ module _
     pub replace-shifted : ifAccepted a (over shifted (s * 512) (sectorOf (offsetOf number s) (dataOf s new))) shifted ≡ shiftedAfter number s new (length stored) shifted
     unfolding shiftedAfter
     replace-shifted = ap (λ (x : Answer). ifAccepted x (over shifted (s * 512) (sectorOf (offsetOf number s) (dataOf s new))) shifted) e
+
+    -- what `replace_sector` promises
+    pub replace-renews :
+        Renews number s new stored (ifAccepted a (over stored (s * 512) new) stored) shifted (ifAccepted a (over shifted (s * 512) (sectorOf (offsetOf number s) (dataOf s new))) shifted) fits
+        (record { answer = a; fits = ifAccepted a (set fits s (fitOf (offsetOf number s) (dataOf s new))) fits })
+    replace-renews = (replace-answer, replace-stored, replace-shifted)

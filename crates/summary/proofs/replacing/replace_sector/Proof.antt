@@ -9,7 +9,7 @@ use lib.ListN.{length}
 use Rattle.answers.specs.declared.kinds.Answer.{Answer}
 use Rattle.answers.specs.declared.kinds.Answer.the-variants.{Accepted, WrongPageLength, WrongBufferLength, BadReplacement}
 use Rattle.sector.specs.declared.fits.Fit.{Fit}
-use Rattle.summary.proofs.Outcomes.{replace-page, replace-room, replace-sector, replace-size, replace-good, replace-answer, replace-stored, replace-shifted}
+use Rattle.summary.proofs.Outcomes.{replace-page, replace-room, replace-sector, replace-size, replace-good, replace-renews}
 use borrow.Author.Needs.{needs}
 use Rattle.summary.proofs.replacing.replace_sector.Statement.{statement}
 use Rattle.summary.proofs.replacing.replace_sector.Tie as tie
@@ -20,11 +20,8 @@ returns c =
     let n = length (now (a .stored)) in
     let m = length (now (a .shifted)) in
     let x : Answer = WrongPageLength n in
-    let w = replace-page (a .sector) (now (a .new)) n m (c .if1 .taken) in (
-      replace-answer (a .number) (a .sector) (now (a .new)) (now (a .stored)) (now (a .shifted)) (a .fits) x w,
-      replace-stored (a .number) (a .sector) (now (a .new)) (now (a .stored)) (now (a .shifted)) (a .fits) x w,
-      replace-shifted (a .number) (a .sector) (now (a .new)) (now (a .stored)) (now (a .shifted)) (a .fits) x w,
-    )
+    let w = replace-page (a .sector) (now (a .new)) n m (c .if1 .taken) in
+    replace-renews (a .number) (a .sector) (now (a .new)) (now (a .stored)) (now (a .shifted)) (a .fits) x w
 
 returns-2 : tie.Need-returns-2
 returns-2 c =
@@ -32,11 +29,8 @@ returns-2 c =
     let n = length (now (a .stored)) in
     let m = length (now (a .shifted)) in
     let x : Answer = WrongBufferLength m in
-    let w = replace-room (a .sector) (now (a .new)) n m (c .before .if1 .left) (c .if2 .taken) in (
-      replace-answer (a .number) (a .sector) (now (a .new)) (now (a .stored)) (now (a .shifted)) (a .fits) x w,
-      replace-stored (a .number) (a .sector) (now (a .new)) (now (a .stored)) (now (a .shifted)) (a .fits) x w,
-      replace-shifted (a .number) (a .sector) (now (a .new)) (now (a .stored)) (now (a .shifted)) (a .fits) x w,
-    )
+    let w = replace-room (a .sector) (now (a .new)) n m (c .before .if1 .left) (c .if2 .taken) in
+    replace-renews (a .number) (a .sector) (now (a .new)) (now (a .stored)) (now (a .shifted)) (a .fits) x w
 
 returns-3 : tie.Need-returns-3
 returns-3 c =
@@ -49,11 +43,8 @@ returns-3 c =
     let w =
     ⊎-elim (λ q. replace-sector (a .sector) (now (a .new)) n m i j (omega (arith, q .taken)))
     (λ q. replace-size (a .sector) (now (a .new)) n m i j (omega (arith, q .0 .left)) (eqb-false _ 512 (not-true _ (q .1 .taken))))
-    (c .if3 .came) in (
-      replace-answer (a .number) (a .sector) (now (a .new)) (now (a .stored)) (now (a .shifted)) (a .fits) x w,
-      replace-stored (a .number) (a .sector) (now (a .new)) (now (a .stored)) (now (a .shifted)) (a .fits) x w,
-      replace-shifted (a .number) (a .sector) (now (a .new)) (now (a .stored)) (now (a .shifted)) (a .fits) x w,
-    )
+    (c .if3 .came) in
+    replace-renews (a .number) (a .sector) (now (a .new)) (now (a .stored)) (now (a .shifted)) (a .fits) x w
 
 put-sector-requires : tie.Need-put-sector-requires
 put-sector-requires c κs =
@@ -68,12 +59,9 @@ returns-4 c =
     let m = length (now (a .shifted)) in
     let s = a .sector in
     let w = replace-good s (now (a .new)) n m (d .before .before .before .if1 .left) (d .before .before .if2 .left) (omega (arith, d .before .if3 .left)) (eqb-true _ 512 (not-false _ (d .if4 .left))) in
-    let put = c .before .before .before .before .put-sector in (
-      ap (λ (fs : List Fit). record { answer = Accepted; fits = fs }) (put .ensures .0)
-          ∙ replace-answer (a .number) s (now (a .new)) (now (a .stored)) (now (a .shifted)) (a .fits) Accepted w,
-      put .ensures .1 .0 ∙ replace-stored (a .number) s (now (a .new)) (now (a .stored)) (now (a .shifted)) (a .fits) Accepted w,
-      put .ensures .1 .1 ∙ replace-shifted (a .number) s (now (a .new)) (now (a .stored)) (now (a .shifted)) (a .fits) Accepted w,
-    )
+    let kept = replace-renews (a .number) s (now (a .new)) (now (a .stored)) (now (a .shifted)) (a .fits) Accepted w in
+    let put = c .before .before .before .before .put-sector in
+    (ap (λ (fs : List Fit). record { answer = Accepted; fits = fs }) (put .ensures .0) ∙ kept .0, put .ensures .1 .0 ∙ kept .1, put .ensures .1 .1 ∙ kept .2)
 
 pub replace-sector-spec : {M : Type 1} → statement M
 replace-sector-spec =
