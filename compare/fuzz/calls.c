@@ -924,6 +924,7 @@ static void try_sectors(void) {
         for (size_t k = 0; k < LENGTHS; k++) {
             right_call(REPLACE);
             call.sector = sector;
+            memcpy(call.held[BYTES], subject.stored + SECTOR * ((sector + 1) % SECTORS), SECTOR);
             call.length[BYTES] = lengths[k];
             try_call();
         }

@@ -577,7 +577,7 @@ static void try_summary(const Stored *kind) {
     must(exact == kind->exact, &functions[SCAN], "so many sectors are exact");
     for (size_t s = 0; s < SECTORS; s++) {
         call.number[SECTOR_NUMBER] = s;
-        memcpy(call.held[BYTES], call.held[PAGE] + SECTOR * (SECTORS - 2 - s % (SECTORS - 1)), SECTOR);
+        memcpy(call.held[BYTES], call.held[PAGE] + SECTOR * (SECTORS - 1 - s), SECTOR);
         expect(REPLACE, LUMEVIQO_ACCEPTED);
     }
     call.number[SECTOR_NUMBER] = SECTORS;

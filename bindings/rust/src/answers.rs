@@ -1,9 +1,7 @@
 //! What the reader answers. The numbers behind these are in include/lumeviqo.h.
 use std::fmt;
 
-use crate::header::{
-    GREATEST_SEARCH_LIMIT, LEAST_SEARCH_LIMIT, PAGE_LENGTH, SEARCH_LIMIT, SECTOR_COUNT, SECTOR_LENGTH, SHIFTED_LENGTH,
-};
+use crate::header::{GREATEST_SEARCH_LIMIT, LEAST_SEARCH_LIMIT, PAGE_LENGTH, SEARCH_LIMIT, SECTOR_COUNT, SECTOR_LENGTH, SHIFTED_LENGTH};
 
 /// Values of bv, ascending.
 pub type AmbiguousCandidates = Vec<u8>;
@@ -164,7 +162,7 @@ impl fmt::Display for Refusal {
             Refusal::BadReplacement { sector } => {
                 write!(
                     f,
-                    "these bytes cannot replace sector {sector}: a sector takes {SECTOR_LENGTH} bytes, sector 7 with its trailer, and sectors are 0 to 7"
+                    "sector {sector} cannot be replaced by these bytes: sectors are 0 to 7, and a sector takes {SECTOR_LENGTH} bytes, sector 7 with its trailer"
                 )
             }
             Refusal::TooManyCandidates { page } => write!(f, "page {page}: more than eight values of bv to choose from"),

@@ -68,7 +68,7 @@ impl Rescued {
         let (mut out, mut fresh) = ([7; PAGE], [7; PAGE]);
         let read = decode_summary(NUMBER, &self.page, &self.fits, &self.shifted, &[], Options::default(), &mut out);
         assert_eq!(read, decode(NUMBER, &self.page, &[], Options::default(), &mut fresh));
-        assert!(out == fresh, "and so is the decoding");
+        assert!(out == fresh, "what is decoded from it is what the page gives");
         read
     }
 }
@@ -145,7 +145,7 @@ fn all_sectors_of_another_page_make_it_that_page() {
     assert!(rescued.page == new);
 }
 
-/// 496 bytes too, for sector 7; and no lent byte is written.
+/// Also 496 bytes for sector 7. No lent byte is written, and wrong lengths of page and buffer are answered first.
 #[test]
 fn another_sector_or_length_is_refused() {
     let whole = two_directories(5);

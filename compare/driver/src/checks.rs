@@ -7,7 +7,7 @@ use lumeviqo::{PAGE, SHIFTED};
 use oracle::Reading;
 use oracle::plain::{Decoded, Fit, Refusal};
 
-use crate::kinds::{Case, MARKER, fits_sector};
+use crate::kinds::{Case, MARKER, write_sector};
 use crate::lent::{BEFORE, Fault};
 use crate::limits::{self, USUAL};
 use crate::options::Options;
@@ -387,7 +387,6 @@ fn replacements(case: &Case, own: Summary, tally: &mut Tally) -> Checked {
         replacement(tally, Question::Replacement, n, &mut page, &mut summary, *sector, new)?;
         replacement(tally, Question::ForeignReplacement, n, &mut other_page, &mut foreign, *sector, new)?;
     }
-    holds(Question::Replacement, "the final page", &page, &case.replaced_page())?;
     // The summary, and what is read from it, are what a fresh reading of the final page gives.
     let reading = Reading::new(n, &page).expect("its length is as it was");
     same(tally, Question::Replacement, Ok(summary.clone()), &Summary::of(&reading))?;
@@ -406,11 +405,10 @@ fn replaced(n: u64, page: &[u8], summary: &Summary, sector: usize, new: &[u8]) -
     if let Some(refusal) = wrong_length(page.len(), None, Some(summary.shifted.len())) {
         return Err(refusal);
     }
-    if !fits_sector(sector, new) {
+    let (mut page, mut summary) = (page.to_vec(), summary.clone());
+    if !write_sector(&mut page, sector, new) {
         return Err(refused(h::BAD_REPLACEMENT, sector));
     }
-    let (mut page, mut summary) = (page.to_vec(), summary.clone());
-    page[sector * 512..][..512].copy_from_slice(new);
     let (fit, shifted) = oracle::sector(n, &page, sector);
     summary.fits[sector] = fit;
     summary.shifted[data_of(sector)].copy_from_slice(&shifted);

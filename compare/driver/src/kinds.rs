@@ -25,10 +25,13 @@ pub struct Case {
 pub type Replacement = (usize, Vec<u8>);
 
 impl Case {
-    /// What the replacements lead to, in whatever order: each sector has the last bytes that fit it, or those that it had.
+    /// The page after all replacements.
     pub fn replaced_page(&self) -> Vec<u8> {
-        let last = |s: usize| self.replacements.iter().rev().find(|(sector, new)| *sector == s && fits_sector(s, new));
-        (0..8).flat_map(|s| last(s).map_or(&self.page[s * 512..][..512], |(_, new)| new)).copied().collect()
+        let mut page = self.page.clone();
+        for (sector, new) in &self.replacements {
+            write_sector(&mut page, *sector, new);
+        }
+        page
     }
 
     /// The new bytes of sector 7, where they fit: the last 16 are a trailer.
@@ -38,8 +41,17 @@ impl Case {
 }
 
 /// Document 02, #103: whether a sector can be replaced by these bytes.
-pub fn fits_sector(sector: usize, new: &[u8]) -> bool {
+fn fits_sector(sector: usize, new: &[u8]) -> bool {
     sector < 8 && new.len() == 512
+}
+
+/// Where they fit, writes them into a page, the last sector's with the trailer; else false.
+pub fn write_sector(page: &mut [u8], sector: usize, new: &[u8]) -> bool {
+    let fits = fits_sector(sector, new);
+    if fits {
+        page[sector * 512..][..512].copy_from_slice(new);
+    }
+    fits
 }
 
 /// The engine's copyright text, which a superblock has somewhere.

@@ -7,7 +7,7 @@ use std::collections::BTreeSet;
 use std::fs::write;
 use std::path::Path;
 
-use compare::kinds::{Case, Replacement, case, fits_sector, recrc};
+use compare::kinds::{Case, Replacement, case, recrc, write_sector};
 use compare::layouts;
 use compare::limits::{self, Class, GREATEST, OUTSIDE, USUAL};
 use compare::plan::{DATA, Plan, put, triangular};
@@ -243,8 +243,9 @@ fn two_directories() -> Plan {
     plan
 }
 
-/// A page that lost sectors 3 and 7: either comes back first, and sector 7 in lengths that are refused. The whole page, to which comes a trailer with
-/// the row count of its other directory, one with a reserved byte set, one with a wrong CRC. And a blank page, to whose trailer come zeros.
+/// A page that lost sectors 3 and 7, to which comes sector 7 in lengths that are refused, sector 3, sector 7; and the two pages in between, to which
+/// comes the other. The whole page, to which comes a trailer with the row count of its other directory, one with a reserved byte set, one with a
+/// wrong CRC. And a blank page, to whose trailer come zeros.
 fn trailers() -> [Case; 5] {
     let whole = two_directories().stored();
     let without = |lost: &[usize]| {
@@ -270,7 +271,7 @@ fn trailers() -> [Case; 5] {
     cases.map(|(page, replacements)| Case { replacements, ..made(TRAILERS, 0, USUAL, page) })
 }
 
-/// All bytes of such a page: a CRC is the same for all that have theirs right.
+/// Every such page is asked about, so its bytes say which it is. Its CRC would not: all pages whose stored CRC is right have the same.
 fn of_trailers(case: &Case, asked: &str) -> Option<String> {
     (case.kind == TRAILERS).then(|| format!("{asked} of {}", hex(&case.page)))
 }
@@ -417,11 +418,8 @@ fn warned(warnings: &[Warning]) -> impl Iterator<Item = String> {
 
 /// The page scanned, a sector replaced, the page decoded from the summary: what a fresh reading of the final page gives.
 fn replacement(case: &Case, sector: usize, bytes: &[u8], before: &Reading<'_>, frozen: &mut Frozen) {
-    let fitting = fits_sector(sector, bytes);
     let mut page = case.page.clone();
-    if fitting {
-        page[sector * 512..][..bytes.len()].copy_from_slice(bytes);
-    }
+    let fitting = write_sector(&mut page, sector, bytes);
     let after = Reading::new(case.number, &page).expect("its length is right");
     let (fits, shifted, refusal) =
         if fitting { (after.fits(), after.shifted(), None) } else { (before.fits(), before.shifted(), Some(refused(14, sector))) };
