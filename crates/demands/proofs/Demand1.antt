@@ -29,7 +29,7 @@ use Rattle.page.specs.declared.trailers.TrailerAnswer.{TrailerAnswer}
 use Rattle.page.specs.declared.superblocks.SuperblockAnswer.{SuperblockAnswer}
 use Rattle.sector.specs.Scan.{blankFits}
 use Rattle.summary.specs.Page.{checked, pageScanOf, scanned}
-use Rattle.summary.specs.Replace.{replaced, storedAfter, shiftedAfter}
+use Rattle.summary.specs.Replace.{sectorAnswer, replaced, storedAfter, shiftedAfter}
 use Rattle.directory.specs.Decisions.{answerOf, verdictRefused, decisionOf}
 use Rattle.slotted.specs.Locations.{givenOf, locatedOf}
 use Rattle.slotted.specs.Parses.{parsedOf}
@@ -127,7 +127,7 @@ scan-one number stored m = checked-one (scanLines (length stored) m) (length sto
 replaced-one : (number s : ℕ) (new : List ℕ) (n m : ℕ) (fits : List Fit) → OneOf (replacementLines s n m) (replaced number s new n m fits .answer)
 unfolding replaced valuesAt
 replaced-one number s new n m fits =
-    checked-one (replacementLines s n m) n m (pick (ltb s 8 && eqb (length new) 512) answer.Accepted (answer.BadReplacement s)) refl refl
+    checked-one (replacementLines s n m) n m (sectorAnswer s new) refl refl
     (pick-case (OneOf (replacementLines s n m)) (ltb s 8 && eqb (length new) 512) answer.Accepted (answer.BadReplacement s)
     (λ g. record { is = refl }) (λ g. record { is = refl }))
 

@@ -1,9 +1,12 @@
 -- A scan's and a replacement's outcome, by its answer; and the answers, by the checks. Assumes nothing.
 use Prim.Native.Nat.{ℕ, _*_, _≤_, _<_}
-use mathlib.Core.Path.{_≡_, ap}
+use mathlib.Core.Path.{_≡_, sym, ap}
+use mathlib.Core.Bool.{Bool, true, false, _&&_}
 use mathlib.Core.List.{List}
 use borrow.Author.Tests.{eq-eqb, ne-eqb, lt-ltb, le-ltb}
+use lib.Dec.{eqb, ltb}
 use lib.ListN.{length, set}
+use Rattle.lists.specs.Cases.{pick}
 use Rattle.lists.specs.Pieces.{over}
 use Rattle.answers.specs.declared.kinds.Answer.{Answer}
 use Rattle.answers.specs.declared.kinds.Answer.the-variants.{Accepted, WrongPageLength, WrongBufferLength, BadReplacement}
@@ -12,39 +15,34 @@ use Rattle.sector.specs.Fit.{fitOf, sectorOf}
 use Rattle.sector.specs.declared.fits.Fit.{Fit}
 use Rattle.sector.specs.Scan.{blankFits}
 use Rattle.summary.specs.Page.{dataOf, fitsOf, bytesOf, checked, ifAccepted, pageScanOf, scanned}
-use Rattle.summary.specs.Replace.{replaceAnswer, replaced, storedAfter, shiftedAfter, Renews}
+use Rattle.summary.specs.Replace.{sectorAnswer, replaceAnswer, replaced, storedAfter, shiftedAfter, Renews}
 use Rattle.summary.specs.declared.pages.PageScan.{PageScan}
 use Rattle.summary.specs.declared.replacing.Changed.{Changed}
 
--- checks 1 and 2 of a scan
-module _ (n m : ℕ) where
-  pub scan-page : (n ≡ 4096 → ⊥) → WrongPageLength n ≡ checked n m Accepted
-  scan-page h = rw (ne-eqb n 4096 h)
+-- checks 1 and 2, and where both pass the answer x
+module _ (n m : ℕ) (x : Answer) where
+  pub checked-page : (n ≡ 4096 → ⊥) → WrongPageLength n ≡ checked n m x
+  checked-page h = rw (ne-eqb n 4096 h)
 
-  pub scan-room : n ≡ 4096 → (m ≡ 4080 → ⊥) → WrongBufferLength m ≡ checked n m Accepted
-  scan-room e h = rw (eq-eqb n 4096 e, ne-eqb m 4080 h)
+  pub checked-room : n ≡ 4096 → (m ≡ 4080 → ⊥) → WrongBufferLength m ≡ checked n m x
+  checked-room e h = rw (eq-eqb n 4096 e, ne-eqb m 4080 h)
 
-  pub scan-good : n ≡ 4096 → m ≡ 4080 → Accepted ≡ checked n m Accepted
-  scan-good e h = rw (eq-eqb n 4096 e, eq-eqb m 4080 h)
+  pub checked-good : n ≡ 4096 → m ≡ 4080 → x ≡ checked n m x
+  checked-good e h = rw (eq-eqb n 4096 e, eq-eqb m 4080 h)
 
--- checks 1, 2 and 14 of a replacement
-module _ (s : ℕ) (new : List ℕ) (n m : ℕ) where
-  pub replace-page : (n ≡ 4096 → ⊥) → WrongPageLength n ≡ replaceAnswer s new n m
-  replace-page h = rw (ne-eqb n 4096 h)
+-- check 14
+module _ (s : ℕ) (new : List ℕ) where
+  tested : (b : Bool) → (ltb s 8 && eqb (length new) 512) ≡ b → pick b Accepted (BadReplacement s) ≡ sectorAnswer s new
+  tested b w = ap (λ (c : Bool). pick c Accepted (BadReplacement s)) (sym w)
 
-  module _ (e : n ≡ 4096) where
-    pub replace-room : (m ≡ 4080 → ⊥) → WrongBufferLength m ≡ replaceAnswer s new n m
-    replace-room h = rw (eq-eqb n 4096 e, ne-eqb m 4080 h)
+  pub sector-above : 8 ≤ s → BadReplacement s ≡ sectorAnswer s new
+  sector-above q = tested false (rw (le-ltb s 8 q))
 
-    module _ (h : m ≡ 4080) where
-      pub replace-sector : 8 ≤ s → BadReplacement s ≡ replaceAnswer s new n m
-      replace-sector q = rw (eq-eqb n 4096 e, eq-eqb m 4080 h, le-ltb s 8 q)
+  pub sector-resized : s < 8 → (length new ≡ 512 → ⊥) → BadReplacement s ≡ sectorAnswer s new
+  sector-resized q d = tested false (rw (lt-ltb s 8 q, ne-eqb (length new) 512 d))
 
-      pub replace-size : s < 8 → (length new ≡ 512 → ⊥) → BadReplacement s ≡ replaceAnswer s new n m
-      replace-size q d = rw (eq-eqb n 4096 e, eq-eqb m 4080 h, lt-ltb s 8 q, ne-eqb (length new) 512 d)
-
-      pub replace-good : s < 8 → length new ≡ 512 → Accepted ≡ replaceAnswer s new n m
-      replace-good q d = rw (eq-eqb n 4096 e, eq-eqb m 4080 h, lt-ltb s 8 q, eq-eqb (length new) 512 d)
+  pub sector-taken : s < 8 → length new ≡ 512 → Accepted ≡ sectorAnswer s new
+  sector-taken q d = tested true (rw (lt-ltb s 8 q, eq-eqb (length new) 512 d))
 
 -- the parts of the contracts
 module _ (number : ℕ) (stored buffer : List ℕ) (a : Answer) (e : a ≡ checked (length stored) (length buffer) Accepted) where

@@ -20,12 +20,12 @@ use Rattle.sector.specs.Scan.{blankFit}
 use Rattle.sector.specs.declared.fits.Fit.{Fit}
 use Rattle.sector.proofs.Shifts.{sector-length}
 use Rattle.summary.specs.Page.{sectorEnd, dataOf, part, fitAt, bytesAt, fitsOf, bytesOf, checked, pageScanOf, scanned}
-use Rattle.summary.specs.Replace.{replaceAnswer, replaced, storedAfter, shiftedAfter}
+use Rattle.summary.specs.Replace.{sectorAnswer, replaceAnswer, replaced, storedAfter, shiftedAfter}
 use Rattle.summary.specs.State.{State, Replacement, atScan, after, afterAll, Fresh, Taken, OneSector, sectorAt}
 use Rattle.summary.specs.declared.pages.PageScan.{PageScan}
 use Rattle.summary.proofs.Parts.{joined-over, part-here, part-other, sector-here, sector-other, trailer-of, page-room, page-data}
 use Rattle.summary.proofs.Sectors.{bytes-length, bytes-sized}
-use Rattle.summary.proofs.Outcomes.{scan-good, replace-page, replace-room, replace-sector, replace-size, replace-good, scan-answer, scan-buffer, replace-answer, replace-stored, replace-shifted}
+use Rattle.summary.proofs.Outcomes.{checked-page, checked-room, checked-good, sector-above, sector-resized, sector-taken, scan-answer, scan-buffer, replace-answer, replace-stored, replace-shifted}
 
 -- what a replacement that is accepted makes of a state
 abbrev put : ℕ → State → Replacement → State
@@ -44,7 +44,7 @@ module _ (number : ℕ) (t : State) (r : Replacement) where
   pub taken-after : Taken t r → after number t r ≡ put number t r
   unfolding after
   taken-after k =
-      let w : Accepted ≡ answerTo = replace-good (r .sector) (r .new) _ _ (k .whole) (k .buffer) (k .within) (k .sized) in
+      let w : Accepted ≡ answerTo = sector-taken (r .sector) (r .new) (k .within) (k .sized) ∙ checked-good _ _ (sectorAnswer (r .sector) (r .new)) (k .whole) (k .buffer) in
       sym
       (λ i. record {
         stored = replace-stored number (r .sector) (r .new) (t .stored) (t .shifted) (t .fits) Accepted w i;
@@ -65,19 +65,19 @@ module _ (number : ℕ) (t : State) (r : Replacement) where
 
       size : length (t .stored) ≡ 4096 → length (t .shifted) ≡ 4080 → s < 8 → Dec (length (r .new) ≡ 512) → Taken t r ⊎ (after number t r ≡ t)
       size a b h (yes e) = inl (record { whole = a; buffer = b; within = h; sized = e })
-      size a b h (no ne) = inr (refused (BadReplacement s) refl (replace-size s (r .new) _ _ a b h ne))
+      size a b h (no ne) = inr (refused (BadReplacement s) refl (sector-resized s (r .new) h ne ∙ checked-good _ _ (sectorAnswer s (r .new)) a b))
 
       within : length (t .stored) ≡ 4096 → length (t .shifted) ≡ 4080 → Dec (s < 8) → Taken t r ⊎ (after number t r ≡ t)
       within a b (yes h) = size a b h (ℕ-discrete (length (r .new)) 512)
-      within a b (no h) = inr (refused (BadReplacement s) refl (replace-sector s (r .new) _ _ a b (omega arith)))
+      within a b (no h) = inr (refused (BadReplacement s) refl (sector-above s (r .new) (omega arith) ∙ checked-good _ _ (sectorAnswer s (r .new)) a b))
 
       buffer : length (t .stored) ≡ 4096 → Dec (length (t .shifted) ≡ 4080) → Taken t r ⊎ (after number t r ≡ t)
       buffer a (yes b) = within a b (decLt s 8)
-      buffer a (no b) = inr (refused (WrongBufferLength (length (t .shifted))) refl (replace-room s (r .new) (length (t .stored)) (length (t .shifted)) a b))
+      buffer a (no b) = inr (refused (WrongBufferLength (length (t .shifted))) refl (checked-room (length (t .stored)) (length (t .shifted)) (sectorAnswer s (r .new)) a b))
 
       whole : Dec (length (t .stored) ≡ 4096) → Taken t r ⊎ (after number t r ≡ t)
       whole (yes a) = buffer a (ℕ-discrete (length (t .shifted)) 4080)
-      whole (no a) = inr (refused (WrongPageLength (length (t .stored))) refl (replace-page s (r .new) (length (t .stored)) (length (t .shifted)) a))
+      whole (no a) = inr (refused (WrongPageLength (length (t .stored))) refl (checked-page (length (t .stored)) (length (t .shifted)) (sectorAnswer s (r .new)) a))
 
   -- ON ANY SUMMARY, also another page's: one sector alone changes, and it becomes that of the new bytes
   module _ (k : Taken t r) (h : length (t .fits) ≡ 8) where
@@ -186,7 +186,7 @@ fresh-after-all number (r ∷ rs) t f = fresh-after-all number rs (after number 
 -- a scan makes a fresh summary, and what is fresh is what a scan of its page makes
 module _ (number : ℕ) (stored buffer : List ℕ) (hp : length stored ≡ 4096) (hb : length buffer ≡ 4080) where
   accepts : Accepted ≡ checked (length stored) (length buffer) Accepted
-  accepts = scan-good (length stored) (length buffer) hp hb
+  accepts = checked-good (length stored) (length buffer) Accepted hp hb
 
   scan-bytes : scanned number stored buffer ≡ bytesOf number stored
   scan-bytes = sym (scan-buffer number stored buffer Accepted accepts)

@@ -16,9 +16,13 @@ use Rattle.sector.specs.declared.fits.Fit.{Fit}
 use Rattle.summary.specs.Page.{dataOf, checked, ifAccepted}
 use Rattle.summary.specs.declared.replacing.Changed.{Changed}
 
--- checks 1, 2, 14, for a page of n bytes and a buffer of m: one of the eight sectors, and 512 bytes for each
+-- check 14: one of the eight sectors, and 512 bytes for each
+abbrev pub sectorAnswer : ℕ → List ℕ → Answer
+sectorAnswer s new = pick (ltb s 8 && eqb (length new) 512) Accepted (BadReplacement s)
+
+-- checks 1, 2, 14, for a page of n bytes and a buffer of m
 abbrev pub replaceAnswer : ℕ → List ℕ → ℕ → ℕ → Answer
-replaceAnswer s new n m = checked n m (pick (ltb s 8 && eqb (length new) 512) Accepted (BadReplacement s))
+replaceAnswer s new n m = checked n m (sectorAnswer s new)
 
 -- x where the replacement is accepted, y where it is refused
 abbrev pub ifReplaced : {A : Type 0} → ℕ → List ℕ → ℕ → ℕ → A → A → A

@@ -5,7 +5,7 @@ use denote.Ref.{now}
 use lib.ListN.{length}
 use Rattle.answers.specs.declared.kinds.Answer.the-variants.{Accepted, WrongPageLength, WrongBufferLength}
 use Rattle.sector.specs.declared.fits.Fit.{Fit}
-use Rattle.summary.proofs.Outcomes.{scan-page, scan-room, scan-good, scan-answer, scan-buffer}
+use Rattle.summary.proofs.Outcomes.{checked-page, checked-room, checked-good, scan-answer, scan-buffer}
 use Rattle.summary.proofs.Rescans.{refitted-all, reshifted-all}
 use borrow.Author.Needs.{needs}
 use Rattle.summary.proofs.pages.scan_page.Statement.{statement}
@@ -16,7 +16,7 @@ returns c =
     let a = c .before .before .before .before .args in
     let n = length (now (a .stored)) in
     let m = length (now (a .shifted)) in
-    let w = scan-page n m (c .if1 .taken) in (
+    let w = checked-page n m Accepted (c .if1 .taken) in (
       ap (λ (fs : List Fit). record { answer = WrongPageLength n; fits = fs }) (c .before .blanks .ensures)
           ∙ scan-answer (a .number) (now (a .stored)) (now (a .shifted)) (WrongPageLength n) w,
       scan-buffer (a .number) (now (a .stored)) (now (a .shifted)) (WrongPageLength n) w,
@@ -27,7 +27,7 @@ returns-2 c =
     let a = c .before .before .before .before .before .args in
     let n = length (now (a .stored)) in
     let m = length (now (a .shifted)) in
-    let w = scan-room n m (c .before .if1 .left) (c .if2 .taken) in (
+    let w = checked-room n m Accepted (c .before .if1 .left) (c .if2 .taken) in (
       ap (λ (fs : List Fit). record { answer = WrongBufferLength m; fits = fs }) (c .before .before .blanks .ensures)
           ∙ scan-answer (a .number) (now (a .stored)) (now (a .shifted)) (WrongBufferLength m) w,
       scan-buffer (a .number) (now (a .stored)) (now (a .shifted)) (WrongBufferLength m) w,
@@ -39,7 +39,7 @@ returns-3 c =
     let a = b .before .before .before .before .before .args in
     let e : length (now (a .stored)) ≡ 4096 = b .before .if1 .left in
     let d : length (now (a .shifted)) ≡ 4080 = b .if2 .left in
-    let w = scan-good (length (now (a .stored))) (length (now (a .shifted))) e d in
+    let w = checked-good (length (now (a .stored))) (length (now (a .shifted))) Accepted e d in
     let blank = b .before .before .blanks in
     let scan = c .before .before .rescan in (
       ap (λ (fs : List Fit). record { answer = Accepted; fits = fs })
