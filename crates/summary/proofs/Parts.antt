@@ -1,17 +1,16 @@
 -- Laws of the sectors of a page: lists of one piece for each sector, all 512 bytes of a sector, and a page of which one sector is written over.
 -- Assumes nothing.
 use Prim.Native.Nat.{ℕ, zero, suc, _+_, _-_, _*_, _≤_, _<_, min}
-use mathlib.Core.Path.{_≡_, refl, sym, ap, ap₂, _∙_}
+use mathlib.Core.Path.{_≡_, refl, sym, ap, _∙_}
 use mathlib.Core.List.{List, _++_}
 use mathlib.Core.Logic.{⊎-elim}
 use native.Mathlib.Nat.{eq-or-lt-of-le, le-of-suc-le-suc, not-suc-le-zero}
-use native.Mathlib.Decide.{ℕ-discrete, decLt}
+use native.Mathlib.Decide.{decLt}
 use native.Mathlib.Omega.{arith}
 use lib.ListN.{length, getD, take, drop, length-append, length-take, length-drop, List·getD-append}
 use lib.Seq.{getD-append-add, ext-getD, getD-take, getD-drop, take-take, take-add, take-all, drop-drop}
 use Rattle.lists.specs.Pieces.{joined, over}
-use Rattle.lists.proofs.Joined.{joined-ext}
-use Rattle.lists.proofs.Over.{over-here, over-before, over-after, over-last, over-append}
+use Rattle.lists.proofs.Over.{over-here, over-before, over-after}
 use Rattle.summary.specs.Page.{sectorEnd, dataOf, part}
 use Rattle.summary.specs.State.{sectorAt}
 
@@ -57,32 +56,6 @@ joined-part f z s h =
     (λ i q.
     let k : i < n = omega (arith, long) in
     getD-take n (drop (s * 512) l) i 0 k ∙ getD-drop (s * 512) l i 0 ∙ joined-at f z 8 s i h (omega arith) k)
-
--- one piece written over by another
-pub joined-over :
-    (f g : ℕ → List ℕ) (n s : ℕ)
-    → Sized f
-    → length (g s) ≡ sectorEnd s - s * 512
-    → s < n
-    → n ≤ 8
-    → ((t : ℕ) → t < n → (t ≡ s → ⊥) → f t ≡ g t)
-    → over (joined f n) (s * 512) (g s) ≡ joined g n
-unfolding joined
-joined-over f g zero s z k hs hn h = absurd (not-suc-le-zero hs)
-joined-over f g (suc n) s z k hs hn h = go (joined-over f g n s z k) (ℕ-discrete n s)
-  where
-    go :
-        (s < n → n ≤ 8 → ((t : ℕ) → t < n → (t ≡ s → ⊥) → f t ≡ g t) → over (joined f n) (s * 512) (g s) ≡ joined g n)
-        → Dec (n ≡ s)
-        → over (joined f n ++ f n) (s * 512) (g s) ≡ joined g n ++ g n
-    go ih (yes e) =
-        let q : length (f n) ≡ length (f s) = ap (λ (t : ℕ). length (f t)) e in
-        over-last (joined f n) (f n) (g s) (s * 512) (omega (arith, sized-length f n z (omega arith))) (omega (arith, z .at s (omega arith)))
-        ∙ ap₂ (λ (l x : List ℕ). l ++ x) (joined-ext f g n (λ t q. h t (omega arith) (omega arith))) (ap g (sym e))
-    go ih (no ne) =
-        let hs' : s < n = omega arith in
-        over-append (joined f n) (f n) (g s) (s * 512) (omega (arith, sized-length f n z (omega arith)))
-        ∙ ap₂ (λ (l x : List ℕ). l ++ x) (ih hs' (omega arith) (λ t q d. h t (omega arith) d)) (h n (omega arith) ne)
 
 -- ---- all 512 bytes of a sector
 

@@ -6,11 +6,12 @@ use mathlib.Core.List.{List, [], _∷_}
 use mathlib.Core.Logic.{_⊎_, inl, inr, ⊎-elim}
 use native.Mathlib.Decide.{ℕ-discrete, decLt}
 use native.Mathlib.Omega.{arith}
-use lib.ListN.{length, set, drop, length-set}
-use lib.Seq.{getD-set-same, getD-set-other, take-all, length-take-le}
+use lib.ListN.{length, getD, set, drop, length-set}
+use lib.Seq.{getD-set-same, getD-set-other, ext-getD, take-all, length-take-le}
 use Rattle.lists.specs.Pieces.{over}
 use Rattle.lists.proofs.Over.{over-length, over-after}
-use Rattle.lists.proofs.Each.{each-set}
+use Rattle.lists.proofs.Each.{each-length, each-at}
+use Rattle.lists.proofs.Joined.{joined-ext}
 use Rattle.answers.specs.Answers.{isAccepted}
 use Rattle.answers.specs.declared.kinds.Answer.{Answer}
 use Rattle.answers.specs.declared.kinds.Answer.the-variants.{Accepted, WrongPageLength, WrongBufferLength, BadReplacement}
@@ -21,10 +22,10 @@ use Rattle.sector.specs.declared.fits.Fit.{Fit}
 use Rattle.sector.proofs.Shifts.{sector-length}
 use Rattle.summary.specs.Page.{sectorEnd, dataOf, part, fitAt, bytesAt, fitsOf, bytesOf, checked, pageScanOf, scanned}
 use Rattle.summary.specs.Replace.{sectorAnswer, replaceAnswer, replaced, storedAfter, shiftedAfter}
-use Rattle.summary.specs.State.{State, Replacement, atScan, after, afterAll, Fresh, Taken, OneSector, sectorAt}
+use Rattle.summary.specs.State.{State, Replacement, atScan, after, afterAll, Fresh, Whole, Taken, OneSector, sectorAt}
 use Rattle.summary.specs.declared.pages.PageScan.{PageScan}
-use Rattle.summary.proofs.Parts.{joined-over, part-here, part-other, sector-here, sector-other, trailer-of, page-room, page-data}
-use Rattle.summary.proofs.Sectors.{bytes-length, bytes-sized}
+use Rattle.summary.proofs.Parts.{part-here, part-other, sector-here, sector-other, sector-data, sector-part, sectors-whole, trailer-of, page-room}
+use Rattle.summary.proofs.Sectors.{summary-length, summary-part}
 use Rattle.summary.proofs.Outcomes.{checked-page, checked-room, checked-good, sector-above, sector-resized, sector-taken, scan-answer, scan-buffer, replace-answer, replace-stored, replace-shifted}
 
 -- what a replacement that is accepted makes of a state
@@ -133,50 +134,68 @@ module _ (number : ℕ) (t : State) (r : Replacement) where
     pub one-sector : OneSector number r t (after number t r)
     one-sector = subst (OneSector number r t) (sym (taken-after k)) put-one
 
+-- sector k of the summary is that of the page
+pub record FreshAt (number : ℕ) (t : State) (k : ℕ) : Type 0 where
+  pub bytes : part k (t .shifted) ≡ bytesAt number (t .stored) k
+  pub fit : getD (t .fits) k blankFit ≡ fitAt number (t .stored) k
+
+-- a summary is fresh where each of its sectors is
+module _ (number : ℕ) (t : State) where
+  pub fresh-each : Fresh number t → (k : ℕ) → k < 8 → FreshAt number t k
+  fresh-each f k h =
+      record {
+        bytes = ap (part k) (f .bytes) ∙ summary-part number (t .stored) (f .whole) k h;
+        fit = ap (λ (l : List Fit). getD l k blankFit) (f .kept) ∙ each-at (fitAt number (t .stored)) 8 k blankFit h;
+      }
+
+  pub fresh-all : Whole t → ((k : ℕ) → k < 8 → FreshAt number t k) → Fresh number t
+  fresh-all w a =
+      record {
+        whole = w .page;
+        bytes = sectors-whole (t .shifted) (omega (arith, w .bytes)) ∙ joined-ext _ _ 8 (λ k h. sector-part (t .shifted) k (w .bytes) h ∙ a k h .bytes);
+        kept =
+            ext-getD blankFit (t .fits) (fitsOf number (t .stored)) (w .eight ∙ sym (each-length (fitAt number (t .stored)) 8))
+            (λ k h. let q : k < 8 = omega (arith, w .eight) in a k q .fit ∙ sym (each-at (fitAt number (t .stored)) 8 k blankFit q));
+      }
+
+-- the sector that is replaced becomes fresh, and the others stay so
+module _ (number : ℕ) (r : Replacement) (t u : State) (c : OneSector number r t u) where
+  new-fresh : FreshAt number u (r .sector)
+  unfolding bytesAt fitAt
+  new-fresh =
+      let same : dataOf (r .sector) (r .new) ≡ part (r .sector) (u .stored) = ap (dataOf (r .sector)) (sym (c .stored-new)) ∙ sector-data (u .stored) (r .sector) in
+      record { bytes = c .shifted-new ∙ ap (sectorOf (offsetOf number (r .sector))) same; fit = c .fit-new ∙ ap (fitOf (offsetOf number (r .sector))) same }
+
+  pub still-fresh : (k : ℕ) → k < 8 → (k ≡ r .sector) ⊎ FreshAt number t k → FreshAt number u k
+  unfolding bytesAt fitAt
+  still-fresh k h (inl e) = subst (FreshAt number u) (sym e) new-fresh
+  still-fresh k h (inr f) = go (ℕ-discrete k (r .sector))
+    where
+      go : Dec (k ≡ r .sector) → FreshAt number u k
+      go (yes e) = subst (FreshAt number u) (sym e) new-fresh
+      go (no ne) =
+          let same : part k (t .stored) ≡ part k (u .stored) = sym (sector-data (t .stored) k) ∙ ap (dataOf k) (sym (c .stored-kept k h ne)) ∙ sector-data (u .stored) k in
+          record {
+            bytes = c .shifted-kept k h ne ∙ f .bytes ∙ ap (sectorOf (offsetOf number k)) same;
+            fit = c .fits-kept k ne ∙ f .fit ∙ ap (fitOf (offsetOf number k)) same;
+          }
+
+pub fresh-whole : (number : ℕ) (t : State) → Fresh number t → Whole t
+fresh-whole number t f =
+    record {
+      page = f .whole;
+      bytes = ap length (f .bytes) ∙ summary-length number (t .stored) (f .whole);
+      eight = ap length (f .kept) ∙ each-length (fitAt number (t .stored)) 8;
+    }
+
 -- a fresh summary stays fresh
-module _ (number : ℕ) (stored new : List ℕ) (s : ℕ) (hs : s < 8) (hp : length stored ≡ 4096) (hn : length new ≡ 512) where
-  abbrev other : List ℕ
-  other = over stored (s * 512) new
-
-  room : s * 512 + length new ≤ length stored
-  room = page-room stored new s hs hp hn
-
-  here : dataOf s new ≡ part s other
-  here = sym (page-data stored new s hs hp hn)
-
-  kept : (t : ℕ) → (t ≡ s → ⊥) → part t stored ≡ part t other
-  kept t ne = sym (part-other stored new s room (omega arith) t ne)
-
-  fits-agree : set (fitsOf number stored) s (fitOf (offsetOf number s) (dataOf s new)) ≡ fitsOf number other
-  unfolding fitAt
-  fits-agree =
-      ap (λ (l : List ℕ). set (fitsOf number stored) s (fitOf (offsetOf number s) l)) here
-      ∙ each-set (fitAt number stored) (fitAt number other) 8 s hs (λ t h ne. ap (fitOf (offsetOf number t)) (kept t ne))
-
-  bytes-agree : over (bytesOf number stored) (s * 512) (sectorOf (offsetOf number s) (dataOf s new)) ≡ bytesOf number other
-  unfolding bytesAt
-  bytes-agree =
-      ap (λ (l : List ℕ). over (bytesOf number stored) (s * 512) (sectorOf (offsetOf number s) l)) here
-      ∙ joined-over (bytesAt number stored) (bytesAt number other) 8 s (bytes-sized number stored hp)
-      (bytes-length number other (over-length stored new (s * 512) room ∙ hp) s) hs (omega arith)
-      (λ t h ne. ap (sectorOf (offsetOf number t)) (kept t ne))
-
 pub fresh-after : (number : ℕ) (t : State) (r : Replacement) → Fresh number t → Fresh number (after number t r)
-fresh-after number t r f =
-    ⊎-elim (λ k. subst (Fresh number) (sym (taken-after number t r k)) (fresh k)) (λ e. subst (Fresh number) (sym e) f) (taken-or-same number t r)
+fresh-after number t r f = ⊎-elim taken (λ e. subst (Fresh number) (sym e) f) (taken-or-same number t r)
   where
-    fresh : Taken t r → Fresh number (put number t r)
-    fresh k =
-        let s : ℕ = r .sector in
-        record {
-          whole = over-length (t .stored) (r .new) (s * 512) (page-room (t .stored) (r .new) s (k .within) (k .whole) (k .sized)) ∙ k .whole;
-          bytes =
-              ap (λ (l : List ℕ). over l (s * 512) (sectorOf (offsetOf number s) (dataOf s (r .new)))) (f .bytes)
-              ∙ bytes-agree number (t .stored) (r .new) s (k .within) (k .whole) (k .sized);
-          kept =
-              ap (λ (l : List Fit). set l s (fitOf (offsetOf number s) (dataOf s (r .new)))) (f .kept)
-              ∙ fits-agree number (t .stored) (r .new) s (k .within) (k .whole) (k .sized);
-        }
+    taken : Taken t r → Fresh number (after number t r)
+    taken k =
+        let c : OneSector number r t (after number t r) = one-sector number t r k (fresh-whole number t f .eight) in
+        fresh-all number (after number t r) (c .lengths-kept) (λ j h. still-fresh number r t (after number t r) c j h (inr (fresh-each number t f j h)))
 
 pub fresh-after-all : (number : ℕ) (rs : List Replacement) (t : State) → Fresh number t → Fresh number (afterAll number t rs)
 unfolding afterAll
