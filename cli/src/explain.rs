@@ -1,0 +1,185 @@
+//! `lumeviqo page`: one page in words, and what may help where it was refused.
+use lumeviqo::{Fits, PAGE, Refusal, Repair, SECTOR, SHIFTED, Superblock, Trailer};
+
+use crate::args::{Allowed, Common, Page};
+use crate::failure::{Failure, Result};
+use crate::outcome::Outcome;
+use crate::output::Output;
+use crate::paint::paint;
+use crate::reading::{Accepted, Answer, PageReading, read_page};
+use crate::source::Source;
+use crate::words::{counted, grouped, sectors};
+
+/// Everything that is said about a page, line by line.
+struct Explanation<'a> {
+    source: &'a Source,
+    common: &'a Common,
+    page: &'a PageReading,
+    stored: &'a [u8],
+    lines: Vec<String>,
+}
+
+pub fn run(asked: &Page, common: &Common) -> Result<u8> {
+    let source = Source::open(&asked.file, common.map.as_deref(), common.start)?;
+    let (number, count) = (asked.number, source.page_count());
+    if number >= count {
+        let words = format!("it has pages 0 to {}, and page {number} was asked for", count - 1);
+        return Err(Failure::NotDone(format!("{}: {words}", asked.file.display())));
+    }
+    let (page, stored) = read_page(&source, number, common.options())?;
+    let mut out = Output::new(common);
+    let mut explanation = Explanation { source: &source, common, page: &page, stored: &stored, lines: Vec::new() };
+    explanation.explain(out.colour);
+    explanation.lines.iter().try_for_each(|line| out.line(line))?;
+    out.flush()?;
+    Ok(u8::from(!page.outcome.is_read()))
+}
+
+impl Explanation<'_> {
+    fn explain(&mut self, colour: bool) {
+        let (page, from) = (self.page, self.source.place(self.page.number));
+        let (name, to) = (self.source.path().display().to_string(), from + self.stored.len() as u64 - 1);
+        self.lines.push(format!("page {} of {name}, bytes {} to {}", page.number, grouped(from), grouped(to)));
+        self.say("outcome", format!("{}: {}", paint(page.outcome, page.outcome.name(), colour), page.outcome.meaning()));
+        self.unread();
+        if self.stored.len() < PAGE {
+            self.say("length", format!("{} of {PAGE} bytes are there", self.stored.len()));
+            self.say("may help", "look whether the file was copied whole, or whether --start is where its first page begins");
+            return;
+        }
+        if page.number == 0 {
+            self.superblock();
+        }
+        self.trailer();
+        match &page.answer {
+            Answer::Accepted(accepted) => self.accepted(accepted),
+            Answer::Refused(refusal) => self.refused(refusal),
+            Answer::Unread => self.never_read(),
+            Answer::Superblock | Answer::Unallocated | Answer::CutShort(_) => {}
+        }
+    }
+
+    /// A line with its name at the left; further lines of the same name stand below it.
+    fn say(&mut self, name: &str, words: impl Into<String>) {
+        self.lines.push(format!("{name:<10}  {}", words.into()));
+    }
+
+    fn unread(&mut self) {
+        if self.page.unread != 0 {
+            self.say("unread", format!("sectors {}, by the map: what stands there is no data", sectors(self.page.unread)));
+        } else if self.source.map().is_some() {
+            self.say("unread", "none of its sectors, by the map");
+        }
+    }
+
+    fn superblock(&mut self) {
+        let Ok(fields) = lumeviqo::superblock(self.stored) else { return };
+        let Superblock { flags, variant_bits, lsn, major, a, b, magic, page_hint, marker } = fields;
+        let known = if lumeviqo::superblock_checked(self.stored).is_ok() { "SQL Anywhere 17's" } else { "not SQL Anywhere 17's, da7aba5e" };
+        self.say("magic", format!("{magic:08x}, {known}"));
+        self.say("version", format!("{major}.{a}.{b}"));
+        self.say("pages", format!("{} by its own count, {} in the file", grouped(page_hint.into()), grouped(self.source.page_count())));
+        self.say("LSN", lsn.to_string());
+        self.say("flags", format!("{flags:02x}, of which {variant_bits:02x} are variant bits"));
+        self.say("marker", if marker { "the engine's copyright text is there" } else { "the engine's copyright text is not there" });
+    }
+
+    fn trailer(&mut self) {
+        let Ok(trailer) = lumeviqo::trailer(self.stored) else { return };
+        if self.page.outcome == Outcome::Unallocated {
+            return;
+        }
+        if self.page.unread >> 7 & 1 != 0 && self.page.outcome == Outcome::Unread {
+            return self.say("trailer", "it lies in sector 7, which is unread");
+        }
+        let Trailer { row_count, page_type, case_variant, lsn, crc, reserved_zero } = trailer;
+        let variant = if case_variant { " in lower case" } else { "" };
+        if self.page.number > 0 {
+            let reserved = if reserved_zero { "" } else { ", reserved bytes are not zero" };
+            self.say("trailer", format!("type {page_type}{variant}, {}, LSN {lsn}{reserved}", counted(row_count.into(), "row")));
+        }
+        let computed = lumeviqo::crc32(&self.stored[..PAGE - size_of::<u32>()]);
+        let verdict = if computed == crc { "as it should be".into() } else { format!("but these bytes have {computed:08x}") };
+        self.say("CRC", format!("{crc:08x} is stored, {verdict}"));
+    }
+
+    fn accepted(&mut self, accepted: &Accepted) {
+        let decoding = &accepted.reading.decoding;
+        if let Some(bv) = decoding.bv {
+            self.say("bv", format!("{bv:02x}, from the {}: {}", decoding.source, decoding.confidence));
+        }
+        decoding.evidence.iter().for_each(|evidence| self.say("evidence", evidence.to_string()));
+        decoding.warnings.iter().for_each(|warning| self.say("warning", warning.kind.to_string()));
+        self.fits(&decoding.fits);
+        match &accepted.row_count {
+            Ok(rows) => self.say("rows", counted(*rows as u64, "row")),
+            Err(refusal) => {
+                self.say("rows", format!("not listed: {refusal}"));
+                self.help(refusal);
+            }
+        }
+    }
+
+    fn refused(&mut self, refusal: &Refusal) {
+        self.say("refused", format!("answer {}: {refusal}", refusal.number()));
+        if !matches!(refusal, Refusal::BadCrc { .. } | Refusal::BadTrailer { .. })
+            && let Ok(repair) = Repair::new(self.page.number, self.stored)
+        {
+            self.fits(repair.fits());
+        }
+        self.help(refusal);
+    }
+
+    fn never_read(&mut self) {
+        self.say("refused", "it is not read by a choice of bv: unread sectors are zeros, which mislead the choice");
+        self.say("may help", self.mend());
+        self.say("or", format!("`lumeviqo page {} --allow integrity` to see what the rest gives: do not trust its rows", self.again()));
+    }
+
+    fn fits(&mut self, fits: &Fits) {
+        self.say("sectors", "   step  agree     next best  tied");
+        for (s, fit) in fits.iter().enumerate() {
+            let length = if s + 1 == fits.len() { SHIFTED - s * SECTOR } else { SECTOR };
+            let exact = if fit.exact { ", exact" } else { "" };
+            let unread = if self.page.unread >> s & 1 != 0 { ", unread" } else { "" };
+            let agree = format!("{}/{length}", fit.peak);
+            self.say("", format!("{s}: {:>4}  {agree:<9} {:<9}  {}{exact}{unread}", fit.step, fit.runner_up, fit.tied));
+        }
+    }
+
+    /// The command that may help, or none where nothing here can.
+    fn help(&mut self, refusal: &Refusal) {
+        let allow = |what: &str| format!("`lumeviqo page {} --allow {what}`", self.again());
+        let damaged = self.page.unread != 0 || self.common.allows(Allowed::Integrity);
+        let command = match refusal {
+            Refusal::BadCrc { .. } => self.mend(),
+            Refusal::BadTrailer { .. } => format!("{} reads it all the same", allow("integrity")),
+            _ if self.page.outcome == Outcome::Undecided && damaged => self.mend(),
+            Refusal::AmbiguousCalibration { .. } | Refusal::LowConfidenceKeystream { .. } => {
+                format!("{} takes the likeliest: do not trust it without a look at the rows", allow("keystream"))
+            }
+            Refusal::KeystreamUnverified { .. } if self.common.limit < lumeviqo::header::GREATEST_SEARCH_LIMIT => {
+                format!("`lumeviqo page {} --limit 2048`, where directories run far; else --allow keystream", self.again())
+            }
+            Refusal::KeystreamUnverified { .. } => format!("{} takes it unconfirmed", allow("keystream")),
+            Refusal::UnknownPrelude { .. } if self.common.limit < lumeviqo::header::GREATEST_SEARCH_LIMIT => {
+                format!("`lumeviqo page {} --limit 2048`, where directories run far; else --allow directory", self.again())
+            }
+            _ => format!("{} takes the directory unconfirmed", allow("directory")),
+        };
+        self.say("may help", command);
+    }
+
+    fn mend(&self) -> String {
+        let (file, map) = (self.source.path().display(), self.common.map.as_deref());
+        let map = map.map_or(String::new(), |map| format!(" --map {}", map.display()));
+        format!("with a second copy, `lumeviqo mend {file}{map} --copy SECOND -o OUT`")
+    }
+
+    /// The file, the page and what goes with it, to be asked once more.
+    fn again(&self) -> String {
+        let map = self.common.map.as_deref().map_or(String::new(), |map| format!(" --map {}", map.display()));
+        let start = if self.source.start() > 0 { format!(" --start {}", self.source.start()) } else { String::new() };
+        format!("{} {}{map}{start}", self.source.path().display(), self.page.number)
+    }
+}

@@ -1,0 +1,237 @@
+//! Pages as they are read: block by block, since the other pages of a block say which bv to expect (its anchors, document 02, #101).
+use std::ops::Range;
+
+use lumeviqo::{Confidence, Leniency, Options, PAGE, Reading, Refusal, Repair, Source as BvSource, Trailer, header};
+
+use crate::failure::Result;
+use crate::outcome::Outcome;
+use crate::source::{BLOCK, Source};
+
+pub struct PageReading {
+    pub number: u64,
+    pub outcome: Outcome,
+    /// Bit s is set where sector s was not wholly read.
+    pub unread: u8,
+    /// Of a page that is whole by its CRC and was written once.
+    pub trailer: Option<Trailer>,
+    pub answer: Answer,
+}
+
+pub enum Answer {
+    CutShort(usize),
+    /// Not decoded: what stands in unread sectors is no data.
+    Unread,
+    Superblock,
+    Unallocated,
+    Accepted(Box<Accepted>),
+    Refused(Refusal),
+}
+
+pub struct Accepted {
+    pub reading: Reading,
+    pub row_count: std::result::Result<usize, Refusal>,
+}
+
+/// A page before the anchors of its block are known.
+enum Look {
+    Done(Outcome, Answer),
+    Scanned(Box<Scanned>),
+}
+
+struct Scanned {
+    repair: Repair,
+    trailer: Option<Trailer>,
+    /// Its own bv, for the other pages.
+    anchor: Option<u8>,
+    /// A sector of it is unread, and it was asked for all the same.
+    lost: bool,
+}
+
+/// Pages of whole blocks: those that are wanted, the first page of the blocks, and their bytes.
+pub struct Part<'a> {
+    pub wanted: Range<u64>,
+    pub first: u64,
+    pub bytes: &'a [u8],
+}
+
+impl<'a> Part<'a> {
+    /// Each block by itself, with those of its pages that are wanted.
+    pub fn blocks(&self) -> impl Iterator<Item = Part<'a>> {
+        let (wanted, first) = (self.wanted.clone(), self.first);
+        self.bytes.chunks(BLOCK as usize * PAGE).enumerate().map(move |(n, bytes)| {
+            let first = first + n as u64 * BLOCK;
+            let wanted = wanted.start.max(first)..wanted.end.min(first + BLOCK);
+            Part { wanted, first, bytes }
+        })
+    }
+
+    pub fn read(&self, source: &Source, options: Options) -> Vec<PageReading> {
+        let mut readings = Vec::with_capacity((self.wanted.end - self.wanted.start) as usize);
+        for block in self.blocks() {
+            let pages = (block.first..).zip(block.bytes.chunks(PAGE));
+            let stored = pages.map(|(number, bytes)| Stored { number, bytes, unread: source.unread_sectors(number), repair: None });
+            readings.extend(read_block(stored, &block.wanted, options));
+        }
+        readings
+    }
+}
+
+/// One page, and the bytes that are stored of it.
+pub fn read_page(source: &Source, number: u64, options: Options) -> Result<(PageReading, Vec<u8>)> {
+    let (mut bytes, wanted) = (Vec::new(), number..number + 1);
+    source.read_blocks(&wanted, &mut bytes)?;
+    let part = Part { first: number / BLOCK * BLOCK, wanted, bytes: &bytes };
+    let page = part.read(source, options).remove(0);
+    let at = (number % BLOCK) as usize * PAGE;
+    let stored = bytes[at..bytes.len().min(at + PAGE)].to_vec();
+    Ok((page, stored))
+}
+
+/// A page as it is stored, and its summary where one was kept.
+pub struct Stored<'a> {
+    pub number: u64,
+    pub bytes: &'a [u8],
+    pub unread: u8,
+    pub repair: Option<Repair>,
+}
+
+/// Those pages of a block that are wanted; the others are looked at for their anchors.
+pub fn read_block<'a>(pages: impl Iterator<Item = Stored<'a>>, wanted: &Range<u64>, options: Options) -> Vec<PageReading> {
+    let mut plain = [0; PAGE];
+    let looks: Vec<(u64, u8, Look)> = pages.map(|page| (page.number, page.unread, look(page, options, &mut plain))).collect();
+    let anchors: Vec<(u64, u8)> = looks.iter().filter_map(|(number, _, look)| Some((*number, look.anchor()?))).collect();
+    let wanted = looks.into_iter().filter(|(number, ..)| wanted.contains(number));
+    wanted.map(|(number, unread, look)| look.read(number, unread, &others(&anchors, number), options)).collect()
+}
+
+/// The anchors that the other pages of its block give.
+fn others(anchors: &[(u64, u8)], number: u64) -> Vec<u8> {
+    let mut values: Vec<u8> = anchors.iter().filter(|(page, _)| *page != number).map(|(_, bv)| *bv).collect();
+    values.sort_unstable();
+    values.dedup();
+    values
+}
+
+/// `plain` is lent to whoever needs room for a page.
+fn look(stored: Stored, options: Options, plain: &mut [u8; PAGE]) -> Look {
+    let Stored { number, bytes: page, unread, .. } = stored;
+    if page.len() < PAGE {
+        return Look::Done(Outcome::CutShort, Answer::CutShort(page.len()));
+    }
+    if is_zero(page) {
+        return if unread != 0 { Look::Done(Outcome::Unread, Answer::Unread) } else { unallocated(number, page, options, plain) };
+    }
+    let sound = lumeviqo::integrity(number, page);
+    let lost = unread != 0 && matches!(sound, Err(Refusal::BadCrc { .. }));
+    let allowed = options.leniency.allows(Leniency::INTEGRITY);
+    if lost && !allowed {
+        return Look::Done(Outcome::Unread, Answer::Unread);
+    }
+    if number == 0 && lumeviqo::superblock_checked(page).is_ok() {
+        return superblock(sound, lost);
+    }
+    match sound {
+        Err(refusal) if !allowed => Look::Done(Outcome::Damaged, Answer::Refused(refusal)),
+        _ => scanned(stored, sound.is_ok(), lost, options),
+    }
+}
+
+/// Page 0 is not shifted, so no bv is chosen for it, whatever is allowed.
+fn superblock(sound: std::result::Result<(), Refusal>, lost: bool) -> Look {
+    match sound {
+        Ok(()) => Look::Done(Outcome::Superblock, Answer::Superblock),
+        Err(refusal) => Look::Done(if lost { Outcome::Unread } else { Outcome::Damaged }, Answer::Refused(refusal)),
+    }
+}
+
+fn unallocated(number: u64, page: &[u8], options: Options, plain: &mut [u8; PAGE]) -> Look {
+    match lumeviqo::decode(number, page, &[], options, plain) {
+        Ok(_) => Look::Done(Outcome::Unallocated, Answer::Unallocated),
+        Err(refusal) => Look::Done(Outcome::Undecided, Answer::Refused(refusal)),
+    }
+}
+
+fn scanned(stored: Stored, sound: bool, lost: bool, options: Options) -> Look {
+    let Stored { number, bytes, repair, .. } = stored;
+    match repair.map_or_else(|| Repair::new(number, bytes), Ok) {
+        Ok(repair) => {
+            let anchor = if sound && number != 0 { anchor(&repair, options) } else { None };
+            let trailer = lumeviqo::trailer(bytes).ok().filter(|_| sound);
+            Look::Scanned(Box::new(Scanned { repair, trailer, anchor, lost }))
+        }
+        Err(refusal) => Look::Done(Outcome::Undecided, Answer::Refused(refusal)),
+    }
+}
+
+/// The page's own bv, if row count or exact sectors confirm it without help. Sectors in doubt do not matter here, so KEYSTREAM lets them pass.
+fn anchor(repair: &Repair, options: Options) -> Option<u8> {
+    let reading = repair.decode(&[], Options { leniency: Leniency::KEYSTREAM, ..options }).ok()?;
+    let confirmed = matches!(reading.decoding.source, BvSource::TrailerRowCount | BvSource::ExactSectors);
+    reading.decoding.bv.filter(|_| confirmed)
+}
+
+impl Look {
+    fn anchor(&self) -> Option<u8> {
+        match self {
+            Look::Scanned(scanned) => scanned.anchor,
+            Look::Done(..) => None,
+        }
+    }
+
+    fn read(self, number: u64, unread: u8, anchors: &[u8], options: Options) -> PageReading {
+        match self {
+            Look::Done(outcome, answer) => PageReading { number, outcome, unread, trailer: None, answer },
+            Look::Scanned(scanned) => {
+                let (outcome, answer) = decoded(&scanned.repair, anchors, options);
+                let outcome = if scanned.lost { Outcome::Unread } else { outcome };
+                PageReading { number, outcome, unread, trailer: scanned.trailer, answer }
+            }
+        }
+    }
+}
+
+impl Answer {
+    /// Document 01's number; none where the reader was not asked.
+    pub fn number(&self) -> Option<usize> {
+        match self {
+            Answer::Unread => None,
+            Answer::CutShort(_) => Some(header::WRONG_PAGE_LENGTH),
+            Answer::Superblock | Answer::Unallocated | Answer::Accepted(_) => Some(header::ACCEPTED),
+            Answer::Refused(refusal) => Some(refusal.number()),
+        }
+    }
+}
+
+/// What a page gives under these anchors, and how many rows it has.
+pub fn decoded(repair: &Repair, anchors: &[u8], options: Options) -> (Outcome, Answer) {
+    match repair.decode(anchors, options) {
+        Ok(reading) => {
+            let row_count = lumeviqo::row_count(repair.number(), reading.plain.as_slice(), options);
+            (accepted(reading.decoding.confidence), Answer::Accepted(Box::new(Accepted { reading, row_count })))
+        }
+        Err(refusal) => (refused(&refusal), Answer::Refused(refusal)),
+    }
+}
+
+fn accepted(confidence: Confidence) -> Outcome {
+    match confidence {
+        Confidence::Unallocated => Outcome::Unallocated,
+        Confidence::Unverified => Outcome::Unverified,
+        Confidence::Corroborated => Outcome::Corroborated,
+        Confidence::Calibrated => Outcome::Calibrated,
+        Confidence::Verified => Outcome::Verified,
+    }
+}
+
+fn refused(refusal: &Refusal) -> Outcome {
+    match refusal {
+        Refusal::BadCrc { .. } | Refusal::BadTrailer { .. } => Outcome::Damaged,
+        _ => Outcome::Undecided,
+    }
+}
+
+/// By blocks with no way out inside one, which become vector code.
+pub fn is_zero(page: &[u8]) -> bool {
+    let (blocks, rest) = page.as_chunks::<64>();
+    blocks.iter().all(|block| block.iter().fold(0, |sum, byte| sum | byte) == 0) && rest.iter().all(|byte| *byte == 0)
+}

@@ -1,0 +1,159 @@
+//! A page file as it lies on disc, opened for reading only, with the map of what was read of it.
+use std::fs::File;
+use std::io::{self, Seek, SeekFrom};
+use std::ops::Range;
+use std::os::fd::AsRawFd;
+use std::os::unix::fs::{FileExt, FileTypeExt};
+use std::path::{Path, PathBuf};
+
+use lumeviqo::PAGE;
+
+use crate::failure::{Failure, Result};
+use crate::map::Map;
+
+pub const BLOCK: u64 = 16;
+const PAGE_BYTES: u64 = PAGE as u64;
+
+pub struct Source {
+    path: PathBuf,
+    name: String,
+    file: File,
+    map: Option<Map>,
+    /// Where page 0 begins in the file.
+    start: u64,
+    /// Where the file ends.
+    end: u64,
+    /// Where the pages end: with the file, or where its map has unread bytes behind that, with those.
+    pages_end: u64,
+}
+
+impl Source {
+    pub fn open(path: &Path, map: Option<&Path>, start: u64) -> Result<Source> {
+        Source::with_map(path, map.map(read_map).transpose()?, start)
+    }
+
+    pub fn with_map(path: &Path, map: Option<Map>, start: u64) -> Result<Source> {
+        let (file, end) = open_file(path)?;
+        if start >= end {
+            let last = format!("--start {start} is not inside it, and its first page would begin there");
+            return Err(Failure::NotDone(format!("{}: it has {end} bytes: {last}", path.display())));
+        }
+        let pages_end = map.as_ref().map_or(end, |map| end_with_unread(map, end));
+        Ok(Source { path: path.into(), name: path.display().to_string(), file, map, start, end, pages_end })
+    }
+
+    pub fn path(&self) -> &Path {
+        &self.path
+    }
+
+    /// As it was named, for a line that speaks of it.
+    pub fn name(&self) -> &str {
+        &self.name
+    }
+
+    pub fn map(&self) -> Option<&Map> {
+        self.map.as_ref()
+    }
+
+    pub fn start(&self) -> u64 {
+        self.start
+    }
+
+    /// Bytes of the whole file, those before --start too.
+    pub fn end(&self) -> u64 {
+        self.end
+    }
+
+    /// Bytes from --start on, and with a map also those that it has behind the file's end.
+    pub fn size(&self) -> u64 {
+        self.pages_end - self.start
+    }
+
+    /// A last page that is cut short is one too.
+    pub fn page_count(&self) -> u64 {
+        self.size().div_ceil(PAGE_BYTES)
+    }
+
+    /// How many pages the file itself has nothing of.
+    pub fn pages_behind_the_end(&self) -> u64 {
+        self.page_count() - (self.end - self.start).div_ceil(PAGE_BYTES)
+    }
+
+    /// Where a page begins in the file.
+    pub fn place(&self, page: u64) -> u64 {
+        self.start + page * PAGE_BYTES
+    }
+
+    /// Bit s is set where sector s of the page was not wholly read.
+    pub fn unread_sectors(&self, page: u64) -> u8 {
+        self.map.as_ref().map_or(0, |map| map.unread_sectors(self.place(page)))
+    }
+
+    /// The bytes of the blocks that these pages lie in; zeros where the map has unread bytes behind the file's end.
+    pub fn read_blocks(&self, pages: &Range<u64>, bytes: &mut Vec<u8>) -> Result<()> {
+        let (from, to) = (pages.start / BLOCK * BLOCK, pages.end.next_multiple_of(BLOCK));
+        self.read_pages(from..to.min(self.page_count()), bytes)
+    }
+
+    /// The bytes of these pages alone.
+    pub fn read_pages(&self, pages: Range<u64>, bytes: &mut Vec<u8>) -> Result<()> {
+        let (first, behind) = (self.place(pages.start), self.place(pages.end).min(self.pages_end));
+        bytes.resize((behind - first) as usize, 0);
+        let there = behind.min(self.end).saturating_sub(first) as usize;
+        bytes[there..].fill(0);
+        self.file.read_exact_at(&mut bytes[..there], first).map_err(|e| self.unreadable(&e))
+    }
+
+    /// Bytes of the image, wherever its pages are.
+    pub fn read_bytes(&self, range: Range<u64>, bytes: &mut Vec<u8>) -> Result<()> {
+        bytes.resize((range.end - range.start) as usize, 0);
+        self.file.read_exact_at(bytes, range.start).map_err(|e| self.unreadable(&e))
+    }
+
+    /// What the system keeps of the file in memory is given up, so that the next reading is from the disc.
+    pub fn forget(&self) -> io::Result<()> {
+        // SAFETY: it takes numbers alone.
+        match unsafe { libc::posix_fadvise(self.file.as_raw_fd(), 0, 0, libc::POSIX_FADV_DONTNEED) } {
+            0 => Ok(()),
+            error => Err(io::Error::from_raw_os_error(error)),
+        }
+    }
+
+    fn unreadable(&self, error: &io::Error) -> Failure {
+        if error.kind() == io::ErrorKind::UnexpectedEof {
+            let words = "it became shorter while it was read: let whatever writes to it end, and begin again";
+            return Failure::NotDone(format!("{}: {words}", self.path.display()));
+        }
+        Failure::of(&self.path, error)
+    }
+}
+
+/// A rescue whose last bytes could not be read leaves an image that ends before them: its map alone knows of them. A map that has bytes there as
+/// read is not that of the image, and one that goes on without end knows no end.
+fn end_with_unread(map: &Map, end: u64) -> u64 {
+    let endless = map.end() >= 1 << 62;
+    if endless || map.has_read(end..map.end().max(end)) { end } else { map.end().max(end) }
+}
+
+fn read_map(path: &Path) -> Result<Map> {
+    let text = std::fs::read(path).map_err(|e| Failure::of(path, &e))?;
+    Map::parse(&text).map_err(|e| Failure::NotDone(format!("{}: {e}", path.display())))
+}
+
+/// The file and its length. A pipe has no places to read at, and opening one waits for a writer.
+fn open_file(path: &Path) -> Result<(File, u64)> {
+    let failure = |e: io::Error| Failure::of(path, &e);
+    let kind = std::fs::metadata(path).map_err(failure)?.file_type();
+    let wrong = |words: &str| Err(Failure::NotDone(format!("{}: {words}", path.display())));
+    if kind.is_dir() {
+        return wrong("this is a directory: name the page file in it");
+    }
+    if kind.is_fifo() || kind.is_socket() || kind.is_char_device() {
+        return wrong("this is no file with places to read at: save it to a file, and name that");
+    }
+    let mut file = File::open(path).map_err(failure)?;
+    match file.seek(SeekFrom::End(0)).map_err(failure)? {
+        0 => wrong("the file is empty: there is no page in it"),
+        end => Ok((file, end)),
+    }
+}

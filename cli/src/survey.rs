@@ -1,0 +1,311 @@
+//! `lumeviqo survey`: what became of each page of a file.
+use lumeviqo::{Refusal, header};
+use serde_json::json;
+
+use crate::args::{Common, Survey};
+use crate::failure::{Failure, Result};
+use crate::newfile::NewFile;
+use crate::outcome::Outcome;
+use crate::output::Output;
+use crate::paint::paint;
+use crate::picture::{self, Picture};
+use crate::progress::Progress;
+use crate::reading::{Answer, PageReading};
+use crate::sketch::sketch;
+use crate::source::Source;
+use crate::sweep::Sweep;
+use crate::tally::{Tally, type_name};
+use crate::words::{counted, grouped, sectors};
+
+const COLUMNS: [&str; 12] =
+    ["page", "outcome", "answer", "source", "confidence", "bv", "type", "trailer_rows", "rows", "row_answer", "warnings", "unread_sectors"];
+
+/// What is known of a file when it was gone through, or when that was interrupted.
+struct Surveyed<'a> {
+    source: &'a Source,
+    first: u64,
+    tally: Tally,
+    /// A byte a page, for the pictures.
+    outcomes: Vec<Outcome>,
+    /// Page 0's, where it is not that of SQL Anywhere 17.
+    other_magic: Option<u32>,
+    cut_short: Option<(u64, usize)>,
+    interrupted: bool,
+}
+
+/// What a part of the file gives, made by any thread.
+struct Part {
+    tally: Tally,
+    outcomes: Vec<Outcome>,
+    csv: Vec<u8>,
+    cut_short: Option<(u64, usize)>,
+}
+
+pub fn run(asked: &Survey, common: &Common) -> Result<u8> {
+    let sweep = Sweep::asked(&asked.file, common)?;
+    let svg = asked.svg.as_deref().map(NewFile::create).transpose()?;
+    let mut out = Output::new(common);
+    if asked.csv {
+        out.line(COLUMNS.join(","))?;
+    }
+    let surveyed = go_through(&sweep, asked.csv, common, &mut out)?;
+    if asked.json {
+        out.line(surveyed.json())?;
+    } else if !asked.csv {
+        out.bytes(surveyed.text(&out).as_bytes())?;
+    }
+    if let Some(file) = svg.filter(|_| !surveyed.interrupted) {
+        surveyed.draw(file)?;
+    }
+    out.notes(&surveyed.notes())?;
+    if surveyed.interrupted {
+        return Err(Failure::Interrupted);
+    }
+    Ok(u8::from(surveyed.tally.unread_pages() > 0))
+}
+
+fn go_through<'a>(sweep: &'a Sweep, csv: bool, common: &Common, out: &mut Output) -> Result<Surveyed<'a>> {
+    let source = &sweep.source;
+    let first = sweep.range.start;
+    let mut all = Surveyed {
+        source,
+        first,
+        tally: Tally::default(),
+        outcomes: Vec::with_capacity((sweep.range.end - first) as usize),
+        other_magic: other_magic(source)?,
+        cut_short: None,
+        interrupted: false,
+    };
+    let progress = Progress::new(sweep.range.end - first, common.quiet);
+    let swept = sweep.run(
+        |pages| {
+            let readings = pages.read(source, sweep.options);
+            progress.read(&readings);
+            Ok(part(&readings, csv))
+        },
+        |part| {
+            all.tally.merge(part.tally);
+            all.outcomes.extend(part.outcomes);
+            all.cut_short = all.cut_short.or(part.cut_short);
+            out.bytes(&part.csv)
+        },
+    );
+    match swept {
+        Err(Failure::Interrupted) => all.interrupted = true,
+        other => other?,
+    }
+    Ok(all)
+}
+
+/// None too where sector 0 of page 0 was never read: what stands there says nothing.
+fn other_magic(source: &Source) -> Result<Option<u32>> {
+    let mut page = Vec::new();
+    source.read_pages(0..1, &mut page)?;
+    Ok(match lumeviqo::superblock_checked(&page) {
+        Err(Refusal::BadMagic(magic)) if source.unread_sectors(0) & 1 == 0 => Some(magic),
+        _ => None,
+    })
+}
+
+fn part(readings: &[PageReading], csv: bool) -> Part {
+    let cut_short = readings.iter().find_map(|page| match page.answer {
+        Answer::CutShort(length) => Some((page.number, length)),
+        _ => None,
+    });
+    Part {
+        tally: Tally::of(readings),
+        outcomes: readings.iter().map(|page| page.outcome).collect(),
+        csv: if csv { csv_lines(readings) } else { Vec::new() },
+        cut_short,
+    }
+}
+
+fn csv_lines(readings: &[PageReading]) -> Vec<u8> {
+    let mut lines = csv::WriterBuilder::new().from_writer(Vec::new());
+    for page in readings {
+        lines.write_record(record(page)).expect("memory takes every record");
+    }
+    lines.into_inner().expect("memory takes every record")
+}
+
+/// In the order of COLUMNS; empty where there is nothing to say.
+fn record(page: &PageReading) -> [String; COLUMNS.len()] {
+    let text = |number: Option<usize>| number.map_or(String::new(), |number| number.to_string());
+    let mut record = std::array::from_fn(|_| String::new());
+    record[0] = page.number.to_string();
+    record[1] = page.outcome.to_string();
+    record[2] = text(page.answer.number());
+    if let Some(trailer) = &page.trailer {
+        record[6] = type_name(trailer);
+        record[7] = trailer.row_count.to_string();
+    }
+    match &page.answer {
+        Answer::Accepted(accepted) => {
+            let decoding = &accepted.reading.decoding;
+            record[3] = decoding.source.to_string();
+            record[4] = decoding.confidence.to_string();
+            record[5] = decoding.bv.map_or(String::new(), |bv| format!("{bv:02x}"));
+            record[8] = text(accepted.row_count.as_ref().ok().copied());
+            record[9] = text(accepted.row_count.as_ref().err().map(Refusal::number));
+            record[10] = decoding.warnings.len().to_string();
+        }
+        Answer::Unallocated => {
+            record[3] = Outcome::Unallocated.to_string();
+            record[4] = Outcome::Unallocated.to_string();
+            record[8] = "0".into();
+            record[10] = "0".into();
+        }
+        _ => {}
+    }
+    record[11] = sectors(page.unread);
+    record
+}
+
+impl Surveyed<'_> {
+    fn json(&self) -> String {
+        let mut object = serde_json::Map::new();
+        object.insert("file".into(), self.source.path().to_string_lossy().into());
+        object.insert("size".into(), self.source.size().into());
+        object.insert("start".into(), self.source.start().into());
+        let map = self.source.map().map(|map| json!({ "read_bytes": map.read_bytes(), "unread_bytes": map.unread_bytes() }));
+        object.insert("map".into(), map.into());
+        object.insert("first_page".into(), self.first.into());
+        object.insert("pages".into(), self.tally.pages().into());
+        object.extend(self.tally.json());
+        object.insert("interrupted".into(), self.interrupted.into());
+        object.insert("notes".into(), json!(self.notes()));
+        serde_json::Value::Object(object).to_string()
+    }
+
+    fn text(&self, out: &Output) -> String {
+        let tally = &self.tally;
+        let mut lines = vec![self.heading(), String::new()];
+        for outcome in Outcome::ALL.into_iter().rev().filter(|outcome| tally.count(*outcome) > 0) {
+            let name = paint(outcome, &format!("{outcome:12}"), out.colour);
+            lines.push(format!("{:>11}  {name}  {}", grouped(tally.count(outcome)), outcome.meaning()));
+        }
+        lines.push(String::new());
+        lines.push(format!("answers      {}", listed(tally.answers().iter().map(|(number, n)| (answer_words(*number), *n)))));
+        lines.push(format!("sources      {}", listed(tally.sources())));
+        lines.push(format!("confidence   {}", listed(tally.confidences())));
+        lines.push(format!("page types   {}", listed(tally.types.clone())));
+        lines.push(format!("rows         {}", self.rows()));
+        if let Some(map) = self.source.map() {
+            let (read, unread) = (grouped(map.read_bytes()), grouped(map.unread_bytes()));
+            lines.push(format!(
+                "map          {read} bytes read, {unread} unread; {} of these pages unread",
+                counted(tally.unread_sectors, "sector")
+            ));
+        }
+        if let Some(columns) = out.columns {
+            lines.push(String::new());
+            lines.push(sketch(&self.outcomes, self.first, columns, out.colour).trim_end().into());
+        }
+        lines.join("\n") + "\n"
+    }
+
+    fn heading(&self) -> String {
+        let (pages, size) = (self.tally.pages(), self.source.size());
+        let name = self.source.path().display();
+        let range = if self.first > 0 { format!(" from page {} on", grouped(self.first)) } else { String::new() };
+        let interrupted = if self.interrupted { ", interrupted: what was counted so far" } else { "" };
+        format!("{name}: {}{range} of a page file of {} bytes{interrupted}", counted(pages, "page"), grouped(size))
+    }
+
+    fn rows(&self) -> String {
+        let tally = &self.tally;
+        let refused: u64 = tally.row_answers.values().sum();
+        let rows = format!("{} in {}", counted(tally.rows, "row"), counted(tally.pages_with_rows, "page"));
+        if refused == 0 {
+            return rows;
+        }
+        let why = listed(tally.row_answers.iter().map(|(number, n)| (answer_words(*number), *n)));
+        format!("{rows}; not listed of {}: {why}", counted(refused, "page"))
+    }
+
+    /// What looks wrong, and what to do.
+    fn notes(&self) -> Vec<String> {
+        [self.note_of_magic(), self.note_of_map(), self.note_of_zeros(), self.note_of_cut(), self.note_of_blocks(), self.note_of_unread()]
+            .into_iter()
+            .flatten()
+            .collect()
+    }
+
+    fn note_of_magic(&self) -> Option<String> {
+        let magic = self.other_magic.filter(|_| self.first == 0)?;
+        let expected = "SQL Anywhere 17's is da7aba5e";
+        Some(format!("page 0 has the magic {magic:08x}, and {expected}: if the page file begins later in an image, say where with --start"))
+    }
+
+    fn note_of_map(&self) -> Option<String> {
+        let behind = self.source.pages_behind_the_end();
+        if behind > 0 {
+            let pages = counted(behind, "page");
+            return Some(format!("{pages} behind the end of the file are unread by the map, and counted as such"));
+        }
+        let read = self.source.map()?.has_read(self.source.end()..u64::MAX);
+        read.then(|| "the map has bytes as read that lie behind the end of the file: look whether it is the map of this file".into())
+    }
+
+    fn note_of_zeros(&self) -> Option<String> {
+        let zeros = self.tally.count(Outcome::Unallocated);
+        let unknown = self.source.map().is_none() && zeros > 0;
+        let advice = "if it was rescued from a disc, give its ddrescue map with --map";
+        unknown.then(|| {
+            format!("{} of zeros, taken as unallocated; a page that could not be read is zeros too: {advice}", counted(zeros, "page"))
+        })
+    }
+
+    fn note_of_cut(&self) -> Option<String> {
+        let (page, length) = self.cut_short?;
+        let causes = "the file was cut short, or --start is not where its first page begins";
+        Some(format!("the last page, {page}, has {length} of {} bytes: {causes}", header::PAGE_LENGTH))
+    }
+
+    /// Blocks of more than one bv are not rare in sound files, a majority of them is.
+    fn note_of_blocks(&self) -> Option<String> {
+        let (blocks, divided) = (self.tally.blocks, self.tally.divided_blocks);
+        let reason = "so it is when the page numbers are wrong: look whether --start is where page 0 begins";
+        (divided * 2 > blocks)
+            .then(|| format!("in {} of {} the pages disagree in bv: {reason}", grouped(divided), counted(blocks, "block")))
+    }
+
+    fn note_of_unread(&self) -> Option<String> {
+        let unread = self.tally.count(Outcome::Unread);
+        let command = format!("lumeviqo mend {} --map MAP --copy SECOND -o OUT", self.source.name());
+        (unread > 0).then(|| format!("sectors of {} are unread: with a second copy, `{command}`", counted(unread, "page")))
+    }
+
+    fn draw(&self, mut file: NewFile) -> Result<()> {
+        let name = self.source.path().file_name().unwrap_or_default().to_string_lossy();
+        let subtitle = self.heading();
+        let picture = Picture { name: &name, first: self.first, outcomes: &self.outcomes, subtitle: &subtitle };
+        picture::write(file.file(), &picture).map_err(|e| Failure::of(file.part(), &e))?;
+        file.keep()
+    }
+}
+
+fn listed(counts: impl IntoIterator<Item = (String, u64)>) -> String {
+    let items: Vec<String> = counts.into_iter().map(|(name, n)| format!("{name} {}", grouped(n))).collect();
+    if items.is_empty() { "none".into() } else { items.join(", ") }
+}
+
+/// An answer's number with a word or two.
+fn answer_words(number: usize) -> String {
+    let words = match number {
+        header::ACCEPTED => "accepted",
+        header::WRONG_PAGE_LENGTH => "cut short",
+        header::BAD_CRC => "bad CRC",
+        header::BAD_TRAILER => "bad trailer",
+        header::AMBIGUOUS_CALIBRATION => "ambiguous bv",
+        header::KEYSTREAM_UNVERIFIED => "unconfirmed bv",
+        header::LOW_CONFIDENCE_KEYSTREAM => "sector in doubt",
+        header::NO_SLOT_DIRECTORY => "unconfirmed directory",
+        header::UNKNOWN_PRELUDE => "unknown prelude",
+        header::SLOT_DIRECTORY_TRUNCATED => "truncated directory",
+        header::AMBIGUOUS_SLOT_DIRECTORY => "ambiguous directory",
+        header::SLOT_OFFSET_IN_DIRECTORY => "offset inside the directory",
+        _ => "see README",
+    };
+    format!("{number} ({words})")
+}
