@@ -16,6 +16,31 @@ Examples:
 Status: 0 all pages read; 1 done, but pages are undecided, damaged, unread or cut short; 2 not done;
 3 what was written reads otherwise than it was said; 130 interrupted.";
 
+const SURVEY_EXAMPLES: &str = "\
+Examples:
+  lumeviqo survey old.db
+  lumeviqo survey rescued.img --map rescued.map --svg rescued.svg
+  lumeviqo survey disc.img --start 0x100000 --map disc.map    the page file begins inside an image
+  lumeviqo survey old.db --csv > pages.csv                    a line for each page";
+
+const PAGE_EXAMPLES: &str = "\
+Examples:
+  lumeviqo page old.db 0                            the superblock
+  lumeviqo page rescued.img 17 --map rescued.map
+  lumeviqo page old.db 17 --limit 2048              its slot directory is looked for further on";
+
+const ROWS_EXAMPLES: &str = "\
+Examples:
+  lumeviqo rows old.db
+  lumeviqo rows old.db --page 17
+  lumeviqo rows old.db --pages 1000..2000 --csv > rows.csv";
+
+const MEND_EXAMPLES: &str = "\
+Examples:
+  lumeviqo mend rescued.img --map rescued.map --copy second.img --copy-map second.map -o mended.db
+  lumeviqo mend rescued.img --map rescued.map --copy second.img --copy third.img -o mended.db --new-map left.map
+  lumeviqo mend bad.db --copy other.db -o mended.db           no map: pages whose CRC is bad";
+
 /// Reads SQL Anywhere 17 page files, also such as were rescued from a bad disc: the reading is that of a library which is proved to do what
 /// its rules say.
 #[derive(Parser)]
@@ -30,12 +55,16 @@ pub struct Words {
 #[derive(Subcommand)]
 pub enum Command {
     /// Count what became of each page of a file, and draw it
+    #[command(after_help = SURVEY_EXAMPLES)]
     Survey(Survey),
     /// Explain one page in words; of page 0, the superblock
+    #[command(after_help = PAGE_EXAMPLES)]
     Page(Page),
     /// List the rows of a file or of a page
+    #[command(after_help = ROWS_EXAMPLES)]
     Rows(Rows),
     /// Put sectors from a second copy into a new file, never over an old one
+    #[command(after_help = MEND_EXAMPLES)]
     Mend(Mend),
     /// Print the completions of a shell
     Completions {
@@ -151,6 +180,17 @@ pub enum Allowed {
     Keystream,
     Directory,
     Integrity,
+}
+
+impl Allowed {
+    /// As it is written on the command line.
+    pub fn word(self) -> &'static str {
+        match self {
+            Allowed::Keystream => "keystream",
+            Allowed::Directory => "directory",
+            Allowed::Integrity => "integrity",
+        }
+    }
 }
 
 #[derive(Debug, Clone, Copy, PartialEq, Eq, ValueEnum)]

@@ -1,4 +1,5 @@
 //! `lumeviqo page`: one page in words, and what may help where it was refused.
+use lumeviqo::header::GREATEST_SEARCH_LIMIT;
 use lumeviqo::{Fits, PAGE, Refusal, Repair, SECTOR, SHIFTED, Superblock, Trailer};
 
 use crate::args::{Allowed, Common, Page};
@@ -147,27 +148,32 @@ impl Explanation<'_> {
         }
     }
 
-    /// The command that may help, or none where nothing here can.
+    /// The command that may help. Where sectors are missing or damaged, nothing but whole ones: leniency upon leniency misleads.
     fn help(&mut self, refusal: &Refusal) {
-        let allow = |what: &str| format!("`lumeviqo page {} --allow {what}`", self.again());
+        let widest = self.common.limit >= GREATEST_SEARCH_LIMIT;
         let damaged = self.page.unread != 0 || self.common.allows(Allowed::Integrity);
         let command = match refusal {
+            Refusal::BadTrailer { .. } => format!("{} reads it all the same", self.allowing("integrity")),
             Refusal::BadCrc { .. } => self.mend(),
-            Refusal::BadTrailer { .. } => format!("{} reads it all the same", allow("integrity")),
-            _ if self.page.outcome == Outcome::Undecided && damaged => self.mend(),
+            _ if damaged => self.mend(),
             Refusal::AmbiguousCalibration { .. } | Refusal::LowConfidenceKeystream { .. } => {
-                format!("{} takes the likeliest: do not trust it without a look at the rows", allow("keystream"))
+                format!("{} takes the likeliest: look at the rows before you trust it", self.allowing("keystream"))
             }
-            Refusal::KeystreamUnverified { .. } if self.common.limit < lumeviqo::header::GREATEST_SEARCH_LIMIT => {
-                format!("`lumeviqo page {} --limit 2048`, where directories run far; else --allow keystream", self.again())
-            }
-            Refusal::KeystreamUnverified { .. } => format!("{} takes it unconfirmed", allow("keystream")),
-            Refusal::UnknownPrelude { .. } if self.common.limit < lumeviqo::header::GREATEST_SEARCH_LIMIT => {
-                format!("`lumeviqo page {} --limit 2048`, where directories run far; else --allow directory", self.again())
-            }
-            _ => format!("{} takes the directory unconfirmed", allow("directory")),
+            Refusal::KeystreamUnverified { .. } if widest => format!("{} takes it unconfirmed", self.allowing("keystream")),
+            Refusal::KeystreamUnverified { .. } => format!("{}; else --allow keystream takes it unconfirmed", self.searching()),
+            Refusal::UnknownPrelude { .. } if !widest => format!("{}; else --allow directory takes it unconfirmed", self.searching()),
+            _ => format!("{} takes the directory unconfirmed", self.allowing("directory")),
         };
         self.say("may help", command);
+    }
+
+    fn allowing(&self, what: &str) -> String {
+        let already = self.common.allow.iter().map(|allowed| format!("{},", allowed.word()));
+        format!("`lumeviqo page {} --allow {}{what}`", self.again(), already.collect::<String>())
+    }
+
+    fn searching(&self) -> String {
+        format!("`lumeviqo page {} --limit {GREATEST_SEARCH_LIMIT}`, if directories run far", self.again())
     }
 
     fn mend(&self) -> String {

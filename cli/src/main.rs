@@ -32,7 +32,7 @@ fn main() -> ExitCode {
         Ok(status) => status,
         Err(failure) => {
             if let Some(message) = failure.message() {
-                eprintln!("lumeviqo: {message}");
+                output::tell(format_args!("lumeviqo: {message}"));
             }
             failure.status()
         }

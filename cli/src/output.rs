@@ -43,8 +43,13 @@ impl Output {
     pub fn notes(&mut self, notes: &[String]) -> Result<()> {
         self.flush()?;
         if !self.quiet {
-            notes.iter().for_each(|note| eprintln!("note: {note}"));
+            notes.iter().for_each(|note| tell(format_args!("note: {note}")));
         }
         Ok(())
     }
+}
+
+/// A line on standard error; if nobody hears it, nobody needs to be told.
+pub fn tell(line: impl Display) {
+    let _ = writeln!(std::io::stderr(), "{line}");
 }

@@ -15,7 +15,7 @@ impl Progress {
     /// Indicatif draws nothing where standard error is no terminal.
     pub fn new(pages: u64, quiet: bool) -> Progress {
         let target = if quiet { ProgressDrawTarget::hidden() } else { ProgressDrawTarget::stderr_with_hz(10) };
-        let bar = ProgressBar::with_draw_target(Some(pages), target).with_style(style());
+        let bar = ProgressBar::with_draw_target(Some(pages), target).with_style(style()).with_message("0 refused");
         if !bar.is_hidden() {
             bar.enable_steady_tick(Duration::from_millis(200));
         }
@@ -52,7 +52,7 @@ fn style() -> ProgressStyle {
     let columns = console::Term::stderr().size_checked().map_or(80, |(_, columns)| columns);
     let template = match columns {
         ..60 => "{percent:>3}% {rate} {eta} {msg}",
-        60.. => "{pos}/{len} pages {percent:>3}% {rate}, {eta} left {msg}",
+        60.. => "{pos}/{len} pages {percent:>3}% {rate}, {eta} left, {msg}",
     };
     let rate = |state: &ProgressState, line: &mut dyn std::fmt::Write| {
         // A terminal that is gone takes no words.

@@ -205,11 +205,13 @@ impl Surveyed<'_> {
     }
 
     fn heading(&self) -> String {
-        let (pages, size) = (self.tally.pages(), self.source.size());
-        let name = self.source.path().display();
-        let range = if self.first > 0 { format!(" from page {} on", grouped(self.first)) } else { String::new() };
         let interrupted = if self.interrupted { ", interrupted: what was counted so far" } else { "" };
-        format!("{name}: {}{range} of a page file of {} bytes{interrupted}", counted(pages, "page"), grouped(size))
+        format!("{}: {}{interrupted}", self.source.name(), self.extent())
+    }
+
+    fn extent(&self) -> String {
+        let range = if self.first > 0 { format!(" from page {} on", grouped(self.first)) } else { String::new() };
+        format!("{}{range} of a page file of {} bytes", counted(self.tally.pages(), "page"), grouped(self.source.size()))
     }
 
     fn rows(&self) -> String {
@@ -272,13 +274,13 @@ impl Surveyed<'_> {
 
     fn note_of_unread(&self) -> Option<String> {
         let unread = self.tally.count(Outcome::Unread);
-        let command = format!("lumeviqo mend {} --map MAP --copy SECOND -o OUT", self.source.name());
+        let command = format!("lumeviqo mend {} --map MAP --copy SECOND --copy-map MAP2 -o OUT", self.source.name());
         (unread > 0).then(|| format!("sectors of {} are unread: with a second copy, `{command}`", counted(unread, "page")))
     }
 
     fn draw(&self, mut file: NewFile) -> Result<()> {
         let name = self.source.path().file_name().unwrap_or_default().to_string_lossy();
-        let subtitle = self.heading();
+        let subtitle = format!("{}, {} not read", self.extent(), grouped(self.tally.unread_pages()));
         let picture = Picture { name: &name, first: self.first, outcomes: &self.outcomes, subtitle: &subtitle };
         picture::write(file.file(), &picture).map_err(|e| Failure::of(file.part(), &e))?;
         file.keep()
