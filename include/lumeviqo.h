@@ -266,6 +266,11 @@ size_t lumeviqo_superblock(const uint8_t *stored, size_t stored_length, uint8_t 
 /* The same, refusing any magic but 0xDA7ABA5E. Refuses: 1, 13. Layout Superblock. */
 size_t lumeviqo_superblock_checked(const uint8_t *stored, size_t stored_length, uint8_t *answer, size_t answer_length);
 
+/* A page that is mended goes through lumeviqo_scan once, then lumeviqo_replace for each sector, and lumeviqo_decode_summary or
+   lumeviqo_decode_supplied_summary. All of these calls need the same `number`, and each takes `stored`, `shifted` and the fits as the
+   last one left them, the fits from its answer. Nothing checks it: under another number, or with the fits of an earlier step or of
+   another page, a page may be accepted, verified and without a warning, whose plain bytes are those of no page. */
+
 /* The eight fits of a stored page, and its shifted bytes, written to `shifted`. Refuses: 1, 2. Layout Scan. */
 size_t lumeviqo_scan(uint64_t number, const uint8_t *stored, size_t stored_length, uint8_t *shifted, size_t shifted_length,
                      uint8_t *answer, size_t answer_length);
@@ -277,13 +282,20 @@ size_t lumeviqo_replace(uint64_t number, uint8_t *stored, size_t stored_length, 
                         const uint8_t *fits, size_t fits_length, size_t sector, const uint8_t *bytes, size_t bytes_length,
                         uint8_t *answer, size_t answer_length);
 
-/* Decodes a stored page: the plain page is written to `out`. `anchors` holds the values of bv of other pages of its block, in any
-   order. Refuses: 1 to 7, 15, 20. Layout Decoding. */
+/* Zeros in the place of what could not be read. A sector of zeros is exact and votes, so where LUMEVIQO_LENIENT_INTEGRITY lets its page
+   through it misleads the choice of bv, and with LUMEVIQO_LENIENT_KEYSTREAM too a wrong bv may be taken: replace such sectors first. A
+   page that is all zero is taken as unallocated, with any leniency; one that was never read is all zero too, and nothing tells the two
+   apart. */
+
+/* Decodes a stored page: the plain page is written to `out`. `anchors` holds the values of bv of other pages of its block (16 pages,
+   the first a multiple of 16), in any order. Page 0 is the superblock and is not shifted: see lumeviqo_superblock. Refuses: 1 to 7, 15,
+   20. Layout Decoding. */
 size_t lumeviqo_decode(uint64_t number, const uint8_t *stored, size_t stored_length, const uint8_t *anchors, size_t anchors_length,
                        uint8_t leniency, uint8_t min_trailer_count, size_t search_limit, uint8_t *out, size_t out_length,
                        uint8_t *answer, size_t answer_length);
 
-/* The same from a summary: the fits and shifted bytes of lumeviqo_scan or lumeviqo_replace. Refuses: 1 to 7, 15, 20. Layout Decoding. */
+/* The same from a summary: the fits and shifted bytes that lumeviqo_scan or the last lumeviqo_replace gave under this number. Refuses:
+   1 to 7, 15, 20. Layout Decoding. */
 size_t lumeviqo_decode_summary(uint64_t number, const uint8_t *stored, size_t stored_length, const uint8_t *fits, size_t fits_length,
                                const uint8_t *shifted, size_t shifted_length, const uint8_t *anchors, size_t anchors_length,
                                uint8_t leniency, uint8_t min_trailer_count, size_t search_limit, uint8_t *out, size_t out_length,

@@ -15,10 +15,13 @@ use crate::sketch::sketch;
 use crate::source::Source;
 use crate::sweep::Sweep;
 use crate::tally::{Tally, type_name};
-use crate::words::{counted, grouped, sectors};
+use crate::words::{counted, grouped, hanging, sectors};
 
 const COLUMNS: [&str; 12] =
     ["page", "outcome", "answer", "source", "confidence", "bv", "type", "trailer_rows", "rows", "row_answer", "warnings", "unread_sectors"];
+
+/// Columns from which on there is room for what an outcome means.
+const WIDE: usize = 80;
 
 /// What is known of a file when it was gone through, or when that was interrupted.
 struct Surveyed<'a> {
@@ -179,23 +182,24 @@ impl Surveyed<'_> {
 
     fn text(&self, out: &Output) -> String {
         let tally = &self.tally;
+        let width = out.columns.unwrap_or(usize::MAX);
         let mut lines = vec![self.heading(), String::new()];
         for outcome in Outcome::ALL.into_iter().rev().filter(|outcome| tally.count(*outcome) > 0) {
             let name = paint(outcome, &format!("{outcome:12}"), out.colour);
-            lines.push(format!("{:>11}  {name}  {}", grouped(tally.count(outcome)), outcome.meaning()));
+            let meaning = if width < WIDE { "" } else { outcome.meaning() };
+            lines.push(format!("{:>11}  {name}  {meaning}", grouped(tally.count(outcome))).trim_end().into());
         }
         lines.push(String::new());
-        lines.push(format!("answers      {}", listed(tally.answers().iter().map(|(number, n)| (answer_words(*number), *n)))));
-        lines.push(format!("sources      {}", listed(tally.sources())));
-        lines.push(format!("confidence   {}", listed(tally.confidences())));
-        lines.push(format!("page types   {}", listed(tally.types.clone())));
-        lines.push(format!("rows         {}", self.rows()));
+        let mut say = |name: &str, words: String| lines.push(hanging(name, &words, width));
+        say("answers", listed(tally.answers().iter().map(|(number, n)| (answer_words(*number), *n))));
+        say("sources", listed(tally.sources()));
+        say("confidence", listed(tally.confidences()));
+        say("page types", listed(tally.types.clone()));
+        say("rows", self.rows());
         if let Some(map) = self.source.map() {
             let (read, unread) = (grouped(map.read_bytes()), grouped(map.unread_bytes()));
-            lines.push(format!(
-                "map          {read} bytes read, {unread} unread; {} of these pages unread",
-                counted(tally.unread_sectors, "sector")
-            ));
+            let sectors = counted(tally.unread_sectors, "sector");
+            say("map", format!("{read} bytes read, {unread} unread; {sectors} of these pages unread"));
         }
         if let Some(columns) = out.columns {
             lines.push(String::new());

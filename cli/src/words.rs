@@ -24,9 +24,36 @@ pub fn sectors(bits: u8) -> String {
     numbers.join(" ")
 }
 
+/// A line with its name at the left; where it is longer than `width`, its words go on below themselves.
+pub fn hanging(name: &str, text: &str, width: usize) -> String {
+    const INDENT: usize = 13;
+    let mut lines = vec![format!("{name:<INDENT$}")];
+    let mut used = INDENT;
+    for word in text.split(' ') {
+        let columns = word.chars().count();
+        if used > INDENT && used + 1 + columns > width {
+            lines.push(" ".repeat(INDENT));
+            used = INDENT;
+        }
+        let blank = if used > INDENT { " " } else { "" };
+        if let Some(line) = lines.last_mut() {
+            *line += &format!("{blank}{word}");
+        }
+        used += blank.len() + columns;
+    }
+    lines.join("\n")
+}
+
 #[cfg(test)]
 mod tests {
     use super::*;
+
+    #[test]
+    fn long_lines_go_on_below_their_words() {
+        assert_eq!(hanging("rows", "12 rows in 3 pages", 80), "rows         12 rows in 3 pages");
+        assert_eq!(hanging("rows", "12 rows in 3 pages", 24), "rows         12 rows in\n             3 pages");
+        assert_eq!(hanging("rows", "12 rows", 5), "rows         12\n             rows");
+    }
 
     #[test]
     fn numbers_are_grouped() {

@@ -3,6 +3,8 @@ use lumeviqo::*;
 
 const NUMBER: u64 = 9;
 
+const STRICT: Options = Options { leniency: Leniency::STRICT, min_trailer_count: 4, search_limit: 768 };
+
 /// The bv of the directory of 5 rows, and that of the directory of 9.
 const BV: [u8; 2] = [0x5A, 0x9A];
 
@@ -44,31 +46,26 @@ fn without<const N: usize>(mut page: [u8; PAGE], lost: [usize; N]) -> [u8; PAGE]
     page
 }
 
-/// A page beside its summary, which is made once and then kept.
-struct Rescued {
-    page: [u8; PAGE],
-    shifted: [u8; SHIFTED],
-    fits: Fits,
-}
+/// A page that is mended, held against one that is read afresh at each step.
+struct Rescued(Repair);
 
 impl Rescued {
     fn new(page: [u8; PAGE]) -> Self {
-        let mut shifted = [0; SHIFTED];
-        let fits = scan(NUMBER, &page, &mut shifted).unwrap();
-        Rescued { page, shifted, fits }
+        Rescued(Repair::new(NUMBER, &page).unwrap())
     }
 
     fn put(&mut self, s: usize, new: &[u8]) {
-        self.fits = replace(NUMBER, &mut self.page, &mut self.shifted, &self.fits, s, new).unwrap();
-        let fresh = Rescued::new(self.page);
-        assert!((fresh.shifted, fresh.fits) == (self.shifted, self.fits), "the kept summary is that of the page");
+        self.0.replace(s, new).unwrap();
+        assert!(sector(self.0.page(), s) == new);
+        assert_eq!(self.0.fits(), Rescued::new(*self.0.page()).0.fits(), "the kept fits are those of the page");
     }
 
     fn read(&self) -> Result<Decoding, Refusal> {
-        let (mut out, mut fresh) = ([7; PAGE], [7; PAGE]);
-        let read = decode_summary(NUMBER, &self.page, &self.fits, &self.shifted, &[], Options::default(), &mut out);
-        assert_eq!(read, decode(NUMBER, &self.page, &[], Options::default(), &mut fresh));
-        assert!(out == fresh, "what is decoded from it is what the page gives");
+        let mut out = [7; PAGE];
+        let (read, fresh) = (self.0.decode(&[], STRICT), decode(NUMBER, self.0.page(), &[], STRICT, &mut out));
+        assert!(read.as_ref().map_or([7; PAGE], |r| *r.plain) == out, "what is decoded from the summary is what the page gives");
+        let read = read.map(|r| r.decoding);
+        assert_eq!(read, fresh);
         read
     }
 }
@@ -91,7 +88,7 @@ fn two_lost_sectors_come_back_in_either_order() {
         rescued.put(order[0], sector(&whole, order[0]));
         assert_eq!(stored_crc(rescued.read()), crc_between);
         rescued.put(order[1], sector(&whole, order[1]));
-        assert!(rescued.page == whole);
+        assert!(*rescued.0.page() == whole);
         assert_eq!(rescued.read(), Rescued::new(whole).read());
         assert_eq!(rescued.read().unwrap().bv, Some(BV[0]));
     }
@@ -123,7 +120,7 @@ fn zeros_over_data_and_trailer_make_a_page_of_zeros_unallocated() {
     let mut rescued = Rescued::new(with_crc(page));
     assert!(matches!(rescued.read(), Err(Refusal::AmbiguousCalibration { .. })));
     rescued.put(7, &[0; SECTOR]);
-    assert_eq!(rescued.fits[7].peak, 496, "the trailer is no data");
+    assert_eq!(rescued.0.fits()[7].peak, 496, "the trailer is no data");
     assert_eq!(rescued.read().unwrap().source, Source::Unallocated);
 }
 
@@ -133,7 +130,7 @@ fn other_sectors_leave_the_trailer() {
     for s in 0..7 {
         let mut rescued = Rescued::new(whole);
         rescued.put(s, &other);
-        assert!(sector(&rescued.page, s) == other && rescued.page[SHIFTED..] == whole[SHIFTED..]);
+        assert!(sector(rescued.0.page(), s) == other && rescued.0.page()[SHIFTED..] == whole[SHIFTED..]);
     }
 }
 
@@ -142,23 +139,25 @@ fn all_sectors_of_another_page_make_it_that_page() {
     let (old, new) = (two_directories(9), two_directories(5));
     let mut rescued = Rescued::new(old);
     [6, 1, 7, 0, 3, 5, 2, 4, 7].iter().for_each(|&s| rescued.put(s, sector(&new, s)));
-    assert!(rescued.page == new);
+    assert!(*rescued.0.page() == new);
 }
 
-/// Also 496 bytes for sector 7. No lent byte is written, and wrong lengths of page and buffer are answered first.
+/// Also 496 bytes for sector 7.
+const NO_SECTORS: [(usize, usize); 9] = [(7, 0), (7, 495), (7, 496), (7, 511), (7, 513), (6, 496), (0, 0), (8, 512), (usize::MAX, 512)];
+
+/// No lent byte is written, and wrong lengths of page and buffer are answered first.
 #[test]
 fn another_sector_or_length_is_refused() {
     let whole = two_directories(5);
-    let cases = [0, 495, 496, 511, 513].map(|n| (7, n)).into_iter().chain([(6, 496), (0, 0), (8, 512), (usize::MAX, 512)]);
-    for (s, n) in cases {
-        let Rescued { mut page, mut shifted, fits } = Rescued::new(whole);
+    for (s, n) in NO_SECTORS {
+        let (mut page, mut shifted) = (whole, [0; SHIFTED]);
+        let fits = scan(NUMBER, &page, &mut shifted).unwrap();
         let before = shifted;
         let refusal = replace(NUMBER, &mut page, &mut shifted, &fits, s, &vec![1; n]).unwrap_err();
         assert_eq!(refusal, Refusal::BadReplacement { sector: s });
-        assert!(refusal.to_string().contains("a sector takes 512 bytes, sector 7 with its trailer"));
         assert!(page == whole && shifted == before);
-        let lengths_first = [(4_095, SHIFTED, Refusal::WrongPageLength(4_095)), (PAGE, 4_079, Refusal::WrongBufferLength(4_079))];
-        for (p, m, refusal) in lengths_first {
+        let wrong = Refusal::WrongBufferLength { buffer: Buffer::Shifted, length: 4_079 };
+        for (p, m, refusal) in [(4_095, SHIFTED, Refusal::WrongPageLength(4_095)), (PAGE, 4_079, wrong)] {
             assert_eq!(replace(NUMBER, &mut page[..p], &mut shifted[..m], &fits, s, &vec![1; n]).unwrap_err(), refusal);
         }
         assert!(page == whole && shifted == before);

@@ -31,6 +31,14 @@ fn put_slots(plain: &mut [u8], at: usize, slots: &[u16]) {
     }
 }
 
+fn told(warnings: &[Warning]) -> Vec<(u64, &WarningKind)> {
+    warnings.iter().map(|w| (w.page, &w.kind)).collect()
+}
+
+fn wrong(buffer: Buffer, length: usize) -> Refusal {
+    Refusal::WrongBufferLength { buffer, length }
+}
+
 /// Bytes i(i + 1)/2 of a sector: under no step do more than two agree, and under each two do.
 fn triangular(length: usize) -> Vec<u8> {
     (0..length).map(|i| (i * (i + 1) / 2) as u8).collect()
@@ -46,7 +54,7 @@ fn crc_of_the_nine_digits() {
 fn zero_data_is_ambiguous() {
     let mut out = [7; PAGE];
     let refusal = decode(1, &zero_data(), &[], Options::default(), &mut out).unwrap_err();
-    assert_eq!(refusal, Refusal::AmbiguousCalibration { page: 1, candidates: (248..=255).collect() });
+    assert_eq!(refusal, Refusal::AmbiguousCalibration { page: 1, candidates: (248..=255).collect(), asked: Asked::default() });
     assert_eq!(out, [7; PAGE]);
 }
 
@@ -58,7 +66,7 @@ fn leniency_lets_the_ambiguous_through() {
     let d = decode(1, &zero_data(), &[], options, &mut out).unwrap();
     assert_eq!((d.bv, d.source, d.confidence), (Some(249), Source::Histogram, Confidence::Unverified));
     let kind = WarningKind::AmbiguousCalibration { chosen: 249, others: vec![248, 250, 251, 252, 253, 254, 255] };
-    assert_eq!(d.warnings, [Warning { page: 1, kind }]);
+    assert_eq!(told(&d.warnings), [(1, &kind)]);
     assert_eq!(out[4080..], zero_data()[4080..]);
 }
 
@@ -177,7 +185,7 @@ fn a_directory_of_1024_slots() {
     put_slots(&mut plain, 0, &slots);
     let widest = Options { search_limit: 2_048, ..LENIENT };
     let parsed = parse(3, &plain, widest).unwrap();
-    assert_eq!(parsed.warnings, [Warning { page: 3, kind: WarningKind::UnverifiedDirectory }]);
+    assert_eq!(told(&parsed.warnings), [(3, &WarningKind::UnverifiedDirectory)]);
     assert_eq!(parsed.directory, Some(Directory { start: 0, end: 2_048, slots, declared: None }));
     let rows = rows(3, &plain, widest).unwrap();
     assert_eq!((rows.len(), rows[0].offset, rows[1_023].bytes), (1_024, 0xBF0, &plain[0xFEF..0xFF0]));
@@ -202,7 +210,7 @@ fn a_limit_out_of_range_is_refused() {
         assert_eq!(row(3, &plain, options, 9).unwrap_err(), refusal);
         assert_eq!(rows(3, &plain, options).unwrap_err(), refusal);
         assert_eq!(rows(3, &plain[..9], options).unwrap_err(), Refusal::WrongPageLength(9));
-        assert_eq!(decode(1, &zero_data(), &[], options, &mut out[..9]).unwrap_err(), Refusal::WrongBufferLength(9));
+        assert_eq!(decode(1, &zero_data(), &[], options, &mut out[..9]).unwrap_err(), wrong(Buffer::Out, 9));
         assert!(refusal.to_string().contains("8 to 2048"));
     }
     assert_eq!(out, [7; PAGE]);
@@ -219,8 +227,43 @@ fn every_wrong_length_is_refused() {
         assert_eq!(integrity(1, &page[..n]).unwrap_err(), Refusal::WrongPageLength(n));
         assert_eq!(superblock(&page[..n]).unwrap_err(), Refusal::WrongPageLength(n));
         assert_eq!(parse(1, &page[..n], Options::default()).unwrap_err(), Refusal::WrongPageLength(n));
-        assert_eq!(decode(1, &page, &[], Options::default(), &mut vec![0; n]).unwrap_err(), Refusal::WrongBufferLength(n));
-        assert_eq!(scan(1, &page, &mut vec![0; n]).unwrap_err(), Refusal::WrongBufferLength(n));
+        assert_eq!(decode(1, &page, &[], Options::default(), &mut vec![0; n]).unwrap_err(), wrong(Buffer::Out, n));
+        assert_eq!(scan(1, &page, &mut vec![0; n]).unwrap_err(), wrong(Buffer::Shifted, n));
+    }
+}
+
+/// `out` before `shifted`; and the page before both.
+#[test]
+fn a_wrong_buffer_has_its_name() {
+    let (mut page, mut shifted, strict) = (zero_data(), [0; SHIFTED], Options::default());
+    let fits = scan(1, &page, &mut shifted).unwrap();
+    for (out, m, buffer) in [(PAGE, 9, Buffer::Shifted), (8, 9, Buffer::Out), (8, SHIFTED, Buffer::Out)] {
+        let (length, mut out) = (if buffer == Buffer::Out { out } else { m }, vec![0; out]);
+        let chosen = decode_summary(1, &page, &fits, &shifted[..m], &[], strict, &mut out);
+        let supplied = decode_supplied_summary(1, &page, &fits, &shifted[..m], 249, strict, &mut out);
+        assert_eq!([chosen, supplied].map(Result::unwrap_err), [wrong(buffer, length), wrong(buffer, length)]);
+    }
+    assert_eq!(decode_supplied(1, &page, 249, strict, &mut [0; 8]).unwrap_err(), wrong(Buffer::Out, 8));
+    assert_eq!(replace(1, &mut page, &mut shifted[..9], &fits, 0, &[0; SECTOR]).unwrap_err(), wrong(Buffer::Shifted, 9));
+    assert_eq!(decode(1, &page[..9], &[], strict, &mut [0; 8]).unwrap_err(), Refusal::WrongPageLength(9));
+}
+
+/// Each way of asking for bv leaves its mark.
+#[test]
+fn a_refusal_knows_what_it_was_asked_with() {
+    let (page, mut shifted, mut out) = (zero_data(), [0; SHIFTED], [0; PAGE]);
+    let fits = scan(1, &page, &mut shifted).unwrap();
+    for leniency in [Leniency::STRICT, Leniency::DIRECTORY, Leniency::INTEGRITY, Leniency(0xFE)] {
+        let options = Options { leniency, ..Options::default() };
+        for anchors in [&[][..], &[249, 3, 3]] {
+            let refusal = decode(1, &page, anchors, options, &mut out).unwrap_err();
+            assert_eq!(decode_summary(1, &page, &fits, &shifted, anchors, options, &mut out).unwrap_err(), refusal);
+            let asked = Asked { anchors: anchors.len(), options, supplied: false };
+            assert_eq!(refusal, Refusal::AmbiguousCalibration { page: 1, candidates: (248..=255).collect(), asked });
+        }
+        let refusal = decode_supplied(1, &page, 249, options, &mut out).unwrap_err();
+        assert_eq!(decode_supplied_summary(1, &page, &fits, &shifted, 249, options, &mut out).unwrap_err(), refusal);
+        assert_eq!(refusal, Refusal::KeystreamUnverified { page: 1, bv: 249, asked: Asked { anchors: 0, options, supplied: true } });
     }
 }
 

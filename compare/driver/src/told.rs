@@ -1,4 +1,6 @@
 //! The reader's typed answers as the plain data that both sides are compared as.
+use std::fmt::Debug;
+
 use lumeviqo::{Evidence, PageType, Reason, Source, WarningKind};
 use oracle::plain::{Decoded, Directory, Fit, Parsed, Refusal, Row, Superblock, Trailer, Warning};
 
@@ -7,12 +9,12 @@ pub fn refusal(r: lumeviqo::Refusal) -> Refusal {
     let plain = |number: u8, values: &[u64]| Refusal { number, values: values.to_vec(), candidates: Vec::new() };
     match r {
         R::WrongPageLength(n) => plain(1, &[n as u64]),
-        R::WrongBufferLength(n) => plain(2, &[n as u64]),
+        R::WrongBufferLength { length, .. } => plain(2, &[length as u64]),
         R::BadCrc { page, stored, computed } => plain(3, &[page, stored as u64, computed as u64]),
         R::BadTrailer { page } => plain(4, &[page]),
-        R::AmbiguousCalibration { page, candidates } => Refusal { candidates, ..plain(5, &[page]) },
-        R::KeystreamUnverified { page, bv } => plain(6, &[page, bv as u64]),
-        R::LowConfidenceKeystream { page, sector, peak, runner_up } => plain(7, &[page, sector as u64, peak as u64, runner_up as u64]),
+        R::AmbiguousCalibration { page, candidates, .. } => Refusal { candidates, ..plain(5, &[page]) },
+        R::KeystreamUnverified { page, bv, .. } => plain(6, &[page, bv as u64]),
+        R::LowConfidenceKeystream { page, sector, peak, runner_up, .. } => plain(7, &[page, sector as u64, peak as u64, runner_up as u64]),
         R::NoSlotDirectory { page, reason } => plain(
             8,
             &[
@@ -33,6 +35,7 @@ pub fn refusal(r: lumeviqo::Refusal) -> Refusal {
         R::TooManyCandidates { page } => plain(15, &[page]),
         R::NoSuchRow(row) => plain(16, &[row as u64]),
         R::LimitOutOfRange(limit) => plain(20, &[limit as u64]),
+        other => no_line(other),
     }
 }
 
@@ -54,6 +57,7 @@ fn warning(w: lumeviqo::Warning) -> Warning {
         WarningKind::SlotDirectoryTruncated { found, expected } => plain(10, &[found, expected]),
         WarningKind::AmbiguousSlotDirectory => plain(11, &[]),
         WarningKind::SlotOffsetsInDirectory { dropped } => plain(12, &[dropped]),
+        other => no_line(other),
     }
 }
 
@@ -67,6 +71,7 @@ pub fn decoded(d: lumeviqo::Decoding, plain: &[u8]) -> Decoded {
             Source::Supplied => 4,
             Source::Corroborated => 5,
             Source::Unallocated => 6,
+            other => no_line(other),
         },
         confidence: 1 + d.confidence as u8,
         evidence: d
@@ -78,6 +83,7 @@ pub fn decoded(d: lumeviqo::Decoding, plain: &[u8]) -> Decoded {
                 Evidence::BlockAnchor => (3, 0, 0),
                 Evidence::ZeroMass { zeros, lead } => (4, zeros, lead),
                 Evidence::Unallocated => (5, 0, 0),
+                other => no_line(other),
             })
             .collect(),
         fits: fits(d.fits),
@@ -131,4 +137,9 @@ pub fn superblock(s: lumeviqo::Superblock) -> Superblock {
         page_hint: s.page_hint,
         marker: s.marker,
     }
+}
+
+/// The binding's kinds may grow, and each needs its line here before it can be compared.
+fn no_line(kind: impl Debug) -> ! {
+    panic!("told.rs has no line for {kind:?}")
 }
