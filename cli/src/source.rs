@@ -11,7 +11,7 @@ use lumeviqo::PAGE;
 use crate::failure::{Failure, Result};
 use crate::map::Map;
 
-pub const BLOCK: u64 = 16;
+pub const BLOCK: u64 = lumeviqo::BLOCK_PAGES;
 const PAGE_BYTES: u64 = PAGE as u64;
 
 pub struct Source {
