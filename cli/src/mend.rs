@@ -91,15 +91,15 @@ impl Target<'_> {
         for (page, place) in bytes.chunks(PAGE).zip((at..).step_by(PAGE)) {
             if !is_zero(page) {
                 self.file.write_all_at(page, place).map_err(|e| self.failed(&e))?;
-                self.length = self.length.max(place + page.len() as u64);
             }
+            self.length = self.length.max(place + page.len() as u64);
         }
         Ok(())
     }
 
-    /// As long as the image, or as what was put behind its end.
-    fn end(&mut self, image: u64) -> Result<()> {
-        self.file.set_len(self.length.max(image)).map_err(|e| self.failed(&e))
+    /// Holes at its end are part of it.
+    fn end(&mut self) -> Result<()> {
+        self.file.set_len(self.length).map_err(|e| self.failed(&e))
     }
 
     fn failed(&self, error: &io::Error) -> Failure {
@@ -155,7 +155,7 @@ impl Mender<'_> {
             Ok(())
         })?;
         self.copy(source.place(sweep.range.end).min(source.end())..source.end(), target)?;
-        target.end(source.end())?;
+        target.end()?;
         Ok(done)
     }
 

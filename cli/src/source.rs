@@ -23,7 +23,7 @@ pub struct Source {
     start: u64,
     /// Where the file ends.
     end: u64,
-    /// Where the pages end: with the file, or where its map has unread bytes behind that, with those.
+    /// Where the pages end: with the file, or behind it with those that its map has as unread.
     pages_end: u64,
 }
 
@@ -38,7 +38,7 @@ impl Source {
             let last = format!("--start {start} is not inside it, and its first page would begin there");
             return Err(Failure::NotDone(format!("{}: it has {end} bytes: {last}", path.display())));
         }
-        let pages_end = map.as_ref().map_or(end, |map| end_with_unread(map, end));
+        let pages_end = map.as_ref().map_or(end, |map| end_with_unread(&file, map, start, end));
         Ok(Source { path: path.into(), name: path.display().to_string(), file, map, start, end, pages_end })
     }
 
@@ -145,11 +145,27 @@ impl Source {
     }
 }
 
-/// A rescue whose last bytes could not be read leaves an image that ends before them: its map alone knows of them. A map that has bytes there as
-/// read is not that of the image, and one that goes on without end knows no end.
-fn end_with_unread(map: &Map, end: u64) -> u64 {
-    let endless = map.end() >= 1 << 62;
-    if endless || map.has_read(end..map.end().max(end)) { end } else { map.end().max(end) }
+/// A rescue whose last bytes could not be read leaves an image that ends before them: its map alone knows of them. How many pages there should be
+/// the superblock says; where it is lost, a tail as long as the image is believed, and no longer one, which would be the rest of a disc. A map that
+/// has bytes there as read is not that of the image.
+fn end_with_unread(file: &File, map: &Map, start: u64, end: u64) -> u64 {
+    if map.end() <= end || map.has_read(end..map.end()) {
+        return end;
+    }
+    let declared = declared_pages(file, start).map(|pages| start + pages * PAGE_BYTES);
+    match declared {
+        Some(declared) => declared.min(map.end()).max(end),
+        None if map.end() - end <= end - start => map.end(),
+        None => end,
+    }
+}
+
+/// How many pages a sound superblock says that there are.
+fn declared_pages(file: &File, start: u64) -> Option<u64> {
+    let mut page = [0; PAGE];
+    file.read_exact_at(&mut page, start).ok()?;
+    lumeviqo::integrity(0, &page).ok()?;
+    Some(lumeviqo::superblock_checked(&page).ok()?.page_hint.into())
 }
 
 fn read_map(path: &Path) -> Result<Map> {

@@ -244,13 +244,16 @@ impl Surveyed<'_> {
     }
 
     fn note_of_map(&self) -> Option<String> {
-        let behind = self.source.pages_behind_the_end();
+        let (map, end, behind) = (self.source.map()?, self.source.end(), self.source.pages_behind_the_end());
         if behind > 0 {
-            let pages = counted(behind, "page");
-            return Some(format!("{pages} behind the end of the file are unread by the map, and counted as such"));
+            return Some(format!("{} behind the end of the file are unread by the map, and counted as such", counted(behind, "page")));
         }
-        let read = self.source.map()?.has_read(self.source.end()..u64::MAX);
-        read.then(|| "the map has bytes as read that lie behind the end of the file: look whether it is the map of this file".into())
+        if map.has_read(end..u64::MAX) {
+            return Some("the map has bytes as read that lie behind the end of the file: look whether it is the map of this file".into());
+        }
+        let missing = map.end().saturating_sub(end);
+        (missing > 0)
+            .then(|| format!("the map has {} unread bytes behind the end of the file: pages may be missing there", grouped(missing)))
     }
 
     fn note_of_zeros(&self) -> Option<String> {
