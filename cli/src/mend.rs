@@ -223,7 +223,7 @@ impl Mender<'_> {
         let pages = (first..).zip(bytes.chunks(PAGE)).zip(&mut patches);
         let stored = pages.map(|((number, bytes), patch)| {
             let unread = patch.as_ref().map_or_else(|| self.source.unread_sectors(number), |patch| patch.unread);
-            Stored { number, bytes, unread, repair: patch.as_mut().and_then(|patch| patch.repair.take()) }
+            Stored::new(number, bytes, unread).with_summary(patch.as_mut().and_then(|patch| patch.repair.take()))
         });
         for page in read_block(stored, range, self.options) {
             let place = (page.number - first) as usize;

@@ -69,7 +69,7 @@ impl<'a> Part<'a> {
         let mut readings = Vec::with_capacity((self.wanted.end - self.wanted.start) as usize);
         for block in self.blocks() {
             let pages = (block.first..).zip(block.bytes.chunks(PAGE));
-            let stored = pages.map(|(number, bytes)| Stored { number, bytes, unread: source.unread_sectors(number), repair: None });
+            let stored = pages.map(|(number, bytes)| Stored::new(number, bytes, source.unread_sectors(number)));
             readings.extend(read_block(stored, &block.wanted, options));
         }
         readings
@@ -89,10 +89,22 @@ pub fn read_page(source: &Source, number: u64, options: Options) -> Result<(Page
 
 /// A page as it is stored, and its summary where one was kept.
 pub struct Stored<'a> {
-    pub number: u64,
-    pub bytes: &'a [u8],
-    pub unread: u8,
-    pub repair: Option<Repair>,
+    number: u64,
+    bytes: &'a [u8],
+    unread: u8,
+    zero: bool,
+    repair: Option<Repair>,
+}
+
+impl<'a> Stored<'a> {
+    pub fn new(number: u64, bytes: &'a [u8], unread: u8) -> Self {
+        Stored { number, bytes, unread, zero: is_zero(bytes), repair: None }
+    }
+
+    /// The same with the summary that was kept while its sectors were replaced.
+    pub fn with_summary(self, repair: Option<Repair>) -> Self {
+        Stored { repair, ..self }
+    }
 }
 
 /// Those pages of a block that are wanted; the others are looked at for their anchors.
@@ -114,11 +126,11 @@ fn others(anchors: &[(u64, u8)], number: u64) -> Vec<u8> {
 
 /// `plain` is lent to whoever needs room for a page.
 fn look(stored: Stored, options: Options, plain: &mut [u8; PAGE]) -> Look {
-    let Stored { number, bytes: page, unread, .. } = stored;
+    let Stored { number, bytes: page, unread, zero, .. } = stored;
     if page.len() < PAGE {
         return Look::Done(Outcome::CutShort, Answer::CutShort(page.len()));
     }
-    if is_zero(page) {
+    if zero {
         return if unread != 0 { Look::Done(Outcome::Unread, Answer::Unread) } else { unallocated(number, page, options, plain) };
     }
     let sound = lumeviqo::integrity(number, page);

@@ -79,6 +79,19 @@ impl Source {
         self.page_count() - (self.end - self.start).div_ceil(PAGE_BYTES)
     }
 
+    /// Pages up to this place are there too, if the map has them as unread behind the file's end: a further copy goes on that far.
+    pub fn extend_to(&mut self, place: u64) {
+        if let Some(map) = self.map.as_ref().filter(|map| !map.has_read(self.end..u64::MAX)) {
+            self.pages_end = self.pages_end.max(place.min(map.end()));
+        }
+    }
+
+    /// How many bytes the map has as unread behind the last page.
+    pub fn unread_behind(&self) -> u64 {
+        let map = self.map.as_ref().filter(|map| !map.has_read(self.end..u64::MAX));
+        map.map_or(0, |map| map.end().saturating_sub(self.pages_end))
+    }
+
     /// Where a page begins in the file.
     pub fn place(&self, page: u64) -> u64 {
         self.start + page * PAGE_BYTES

@@ -51,11 +51,14 @@ impl Sweep {
     }
 
     pub fn of_pages(file: &Path, pages: PageRange, common: &Common) -> Result<Sweep> {
-        let source = Source::open(file, common.map.as_deref(), common.start)?;
+        Sweep::of_source(Source::open(file, common.map.as_deref(), common.start)?, pages, common)
+    }
+
+    pub fn of_source(source: Source, pages: PageRange, common: &Common) -> Result<Sweep> {
         let range = pages.within(source.page_count());
         if range.is_empty() {
             let last = source.page_count() - 1;
-            return Err(Failure::NotDone(format!("{}: it has pages 0 to {last}, and none of those was asked for", file.display())));
+            return Err(Failure::NotDone(format!("{}: it has pages 0 to {last}, and none of those was asked for", source.name())));
         }
         let cores = || std::thread::available_parallelism().map_or(1, |cores| cores.get());
         Ok(Sweep { source, range, options: common.options(), threads: common.threads.unwrap_or_else(cores) })
