@@ -1,16 +1,18 @@
 //! The words of the command line.
 use std::ops::Range;
-use std::path::PathBuf;
+use std::path::{Path, PathBuf};
 
 use clap::{Args, CommandFactory, FromArgMatches, Parser, Subcommand, ValueEnum};
 use lumeviqo::{Leniency, Options, header};
+
+use crate::words::{name_of, quoted};
 
 const EXAMPLES: &str = "\
 Examples:
   lumeviqo survey rescued.img --map rescued.map       what a rescued file still holds
   lumeviqo survey rescued.img --map rescued.map --svg rescued.svg
   lumeviqo page rescued.img 17 --map rescued.map      one page, in words
-  lumeviqo rows rescued.img --csv > rows.csv          every row that can be read
+  lumeviqo rows rescued.img --map rescued.map --csv > rows.csv
   lumeviqo mend rescued.img --map rescued.map --copy second.img --copy-map second.map -o mended.db
 
 Status: 0 all pages read; 1 done, but pages are undecided, damaged, unread or cut short; 2 not done;
@@ -38,7 +40,7 @@ Examples:
 const MEND_EXAMPLES: &str = "\
 Examples:
   lumeviqo mend rescued.img --map rescued.map --copy second.img --copy-map second.map -o mended.db
-  lumeviqo mend rescued.img --map rescued.map --copy second.img --copy third.img -o mended.db --new-map left.map
+  lumeviqo mend rescued.img --map rescued.map --copy second.img --copy-map second.map --copy whole.db -o mended.db --new-map left.map
   lumeviqo mend bad.db --copy other.db -o mended.db           no map: pages whose CRC is bad";
 
 /// Reads SQL Anywhere 17 page files, also such as were rescued from a bad disc: the reading is that of a library which is proved to do what
@@ -95,6 +97,7 @@ pub struct Page {
     /// The page file, or an image that has it inside (see --start)
     pub file: PathBuf,
     /// The page's number; the first is 0
+    #[arg(value_parser = page)]
     pub number: u64,
 }
 
@@ -103,7 +106,7 @@ pub struct Rows {
     /// The page file, or an image that has it inside (see --start)
     pub file: PathBuf,
     /// List the rows of this page alone
-    #[arg(long, value_name = "N", conflicts_with = "pages")]
+    #[arg(long, value_name = "N", conflicts_with = "pages", value_parser = page)]
     pub page: Option<u64>,
     #[command(flatten)]
     pub form: RowForm,
@@ -231,6 +234,19 @@ impl Common {
         Options { leniency, min_trailer_count: self.min_count, search_limit: self.limit }
     }
 
+    /// A command on the same file, to be typed.
+    pub fn command(&self, name: &str, file: &Path) -> String {
+        let map = self.map.as_deref().map_or(String::new(), |map| format!(" --map {}", quoted(map)));
+        let start = if self.start > 0 { format!(" --start {}", self.start) } else { String::new() };
+        format!("lumeviqo {name} {}{map}{start}", quoted(file))
+    }
+
+    /// The command that mends it, but for the names of the copy and the new file.
+    pub fn mending(&self, file: &Path) -> String {
+        let copy_map = if self.map.is_some() { " --copy-map MAP2" } else { "" };
+        format!("{} --copy SECOND{copy_map} -o OUT", self.command("mend", file))
+    }
+
     pub fn allows(&self, what: Allowed) -> bool {
         self.allow.contains(&what)
     }
@@ -268,8 +284,8 @@ fn maps_of_copies(mend: &Mend, matches: &clap::ArgMatches) -> Vec<Option<PathBuf
     maps
 }
 
-fn lone_map(map: &std::path::Path) -> String {
-    format!("--copy-map {} has no --copy before it to go with: write each copy's map behind the copy", map.display())
+fn lone_map(map: &Path) -> String {
+    format!("--copy-map {} has no --copy before it to go with: write each copy's map behind the copy", name_of(map))
 }
 
 fn number(text: &str) -> Option<u64> {
@@ -281,6 +297,10 @@ fn number(text: &str) -> Option<u64> {
 
 fn bytes(text: &str) -> Result<u64, String> {
     number(text).ok_or_else(|| "a number of bytes is wanted, in decimal or as 0x and hexadecimal digits".into())
+}
+
+fn page(text: &str) -> Result<u64, String> {
+    number(text).ok_or_else(|| "a page's number is wanted, in decimal or as 0x and hexadecimal digits".into())
 }
 
 fn pages(text: &str) -> Result<PageRange, String> {

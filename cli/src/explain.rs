@@ -9,7 +9,7 @@ use crate::output::Output;
 use crate::paint::paint;
 use crate::reading::{Accepted, Answer, PageReading, read_page};
 use crate::source::Source;
-use crate::words::{counted, grouped, sectors};
+use crate::words::{counted, grouped, named_sectors};
 
 /// Everything that is said about a page, line by line.
 struct Explanation<'a> {
@@ -24,8 +24,7 @@ pub fn run(asked: &Page, common: &Common) -> Result<u8> {
     let source = Source::open(&asked.file, common.map.as_deref(), common.start)?;
     let (number, count) = (asked.number, source.page_count());
     if number >= count {
-        let words = format!("it has pages 0 to {}, and page {number} was asked for", count - 1);
-        return Err(Failure::NotDone(format!("{}: {words}", asked.file.display())));
+        return Err(Failure::about(&asked.file, &format!("it has pages 0 to {}, and page {number} was asked for", count - 1)));
     }
     let (page, stored) = read_page(&source, number, common.options())?;
     let mut out = Output::new(common);
@@ -39,8 +38,8 @@ pub fn run(asked: &Page, common: &Common) -> Result<u8> {
 impl Explanation<'_> {
     fn explain(&mut self, colour: bool) {
         let (page, from) = (self.page, self.source.place(self.page.number));
-        let (name, to) = (self.source.path().display().to_string(), from + self.stored.len() as u64 - 1);
-        self.lines.push(format!("page {} of {name}, bytes {} to {}", page.number, grouped(from), grouped(to)));
+        let to = from + self.stored.len() as u64 - 1;
+        self.lines.push(format!("page {} of {}, bytes {} to {}", page.number, self.source.name(), grouped(from), grouped(to)));
         self.say("outcome", format!("{}: {}", paint(page.outcome, page.outcome.name(), colour), page.outcome.meaning()));
         self.unread();
         if self.stored.len() < PAGE {
@@ -60,20 +59,32 @@ impl Explanation<'_> {
         }
     }
 
-    /// A line with its name at the left; further lines of the same name stand below it.
+    /// A line with its name at the left.
     fn say(&mut self, name: &str, words: impl Into<String>) {
         self.lines.push(format!("{name:<10}  {}", words.into()));
     }
 
     fn unread(&mut self) {
-        if self.page.unread != 0 {
-            self.say("unread", format!("sectors {}, by the map: what stands there is no data", sectors(self.page.unread)));
-        } else if self.source.map().is_some() {
-            self.say("unread", "none of its sectors, by the map");
+        let unread = named_sectors(self.page.unread);
+        match (self.page.unread, self.source.map()) {
+            (0, Some(_)) => self.say("unread", "none of its sectors, by the map"),
+            (0, None) if self.page.outcome == Outcome::Unallocated => {
+                self.say("or unread", "a page that could not be read is zeros too: a ddrescue map (--map) tells which it is");
+            }
+            (0, None) => {}
+            _ if self.page.outcome == Outcome::Unread => self.say("unread", format!("{unread}, by the map: what stands there is no data")),
+            _ => self.say("unread", format!("{unread}, by the map; but the CRC is good, so it is what stands there")),
         }
     }
 
+    fn is_unread(&self, sector: u8) -> bool {
+        self.page.outcome == Outcome::Unread && self.page.unread >> sector & 1 != 0
+    }
+
     fn superblock(&mut self) {
+        if self.is_unread(0) {
+            return self.say("superblock", "its fields lie in sector 0, which is unread");
+        }
         let Ok(fields) = lumeviqo::superblock(self.stored) else { return };
         let Superblock { flags, variant_bits, lsn, major, a, b, magic, page_hint, marker } = fields;
         let known = if lumeviqo::superblock_checked(self.stored).is_ok() { "SQL Anywhere 17's" } else { "not SQL Anywhere 17's, da7aba5e" };
@@ -90,7 +101,7 @@ impl Explanation<'_> {
         if self.page.outcome == Outcome::Unallocated {
             return;
         }
-        if self.page.unread >> 7 & 1 != 0 && self.page.outcome == Outcome::Unread {
+        if self.is_unread(7) {
             return self.say("trailer", "it lies in sector 7, which is unread");
         }
         let Trailer { row_count, page_type, case_variant, lsn, crc, reserved_zero } = trailer;
@@ -115,14 +126,14 @@ impl Explanation<'_> {
         match &accepted.row_count {
             Ok(rows) => self.say("rows", counted(*rows as u64, "row")),
             Err(refusal) => {
-                self.say("rows", format!("not listed: {refusal}"));
+                self.say("rows", format!("not listed, answer {}: {}", refusal.number(), refusal.what()));
                 self.help(refusal);
             }
         }
     }
 
     fn refused(&mut self, refusal: &Refusal) {
-        self.say("refused", format!("answer {}: {refusal}", refusal.number()));
+        self.say("refused", format!("answer {}: {}", refusal.number(), refusal.what()));
         if !matches!(refusal, Refusal::BadCrc { .. } | Refusal::BadTrailer { .. })
             && let Ok(repair) = Repair::new(self.page.number, self.stored)
         {
@@ -134,7 +145,7 @@ impl Explanation<'_> {
     fn never_read(&mut self) {
         self.say("refused", "it is not read by a choice of bv: unread sectors are zeros, which mislead the choice");
         self.say("may help", self.mend());
-        self.say("or", format!("`lumeviqo page {} --allow integrity` to see what the rest gives: do not trust its rows", self.again()));
+        self.say("or", format!("`{} --allow integrity` to see what the rest gives: do not trust its rows", self.again()));
     }
 
     fn fits(&mut self, fits: &Fits) {
@@ -148,44 +159,41 @@ impl Explanation<'_> {
         }
     }
 
-    /// The command that may help. Where sectors are missing or damaged, nothing but whole ones: leniency upon leniency misleads.
+    /// The command that may help. Where the CRC is bad that is a second copy alone: leniency upon leniency misleads.
     fn help(&mut self, refusal: &Refusal) {
         let widest = self.common.limit >= GREATEST_SEARCH_LIMIT;
-        let damaged = self.page.unread != 0 || self.common.allows(Allowed::Integrity);
-        let command = match refusal {
-            Refusal::BadTrailer { .. } => format!("{} reads it all the same", self.allowing("integrity")),
-            Refusal::BadCrc { .. } => self.mend(),
-            _ if damaged => self.mend(),
+        let bad_crc = matches!(lumeviqo::integrity(self.page.number, self.stored), Err(Refusal::BadCrc { .. }));
+        let words = match refusal {
+            _ if bad_crc => self.mend(),
+            Refusal::BadTrailer { .. } => format!("`{} --allow integrity` reads it all the same", self.again()),
+            _ if self.common.allows(Allowed::Integrity) => format!("`{}`: its CRC is good, so it needs no --allow integrity", self.again()),
             Refusal::AmbiguousCalibration { .. } | Refusal::LowConfidenceKeystream { .. } => {
-                format!("{} takes the likeliest: look at the rows before you trust it", self.allowing("keystream"))
+                format!("{} takes the likeliest: look at the rows before you trust it", self.allowing(Allowed::Keystream))
             }
-            Refusal::KeystreamUnverified { .. } if widest => format!("{} takes it unconfirmed", self.allowing("keystream")),
+            Refusal::KeystreamUnverified { .. } if widest => format!("{} takes it unconfirmed", self.allowing(Allowed::Keystream)),
             Refusal::KeystreamUnverified { .. } => format!("{}; else --allow keystream takes it unconfirmed", self.searching()),
             Refusal::UnknownPrelude { .. } if !widest => format!("{}; else --allow directory takes it unconfirmed", self.searching()),
-            _ => format!("{} takes the directory unconfirmed", self.allowing("directory")),
+            _ => format!("{} takes the directory unconfirmed", self.allowing(Allowed::Directory)),
         };
-        self.say("may help", command);
+        self.say("may help", words);
     }
 
-    fn allowing(&self, what: &str) -> String {
+    /// The same question with one more thing allowed.
+    fn allowing(&self, what: Allowed) -> String {
         let already = self.common.allow.iter().map(|allowed| format!("{},", allowed.word()));
-        format!("`lumeviqo page {} --allow {}{what}`", self.again(), already.collect::<String>())
+        format!("`{} --allow {}{}`", self.again(), already.collect::<String>(), what.word())
     }
 
     fn searching(&self) -> String {
-        format!("`lumeviqo page {} --limit {GREATEST_SEARCH_LIMIT}`, if directories run far", self.again())
+        format!("`{} --limit {GREATEST_SEARCH_LIMIT}`, if directories run far", self.again())
     }
 
     fn mend(&self) -> String {
-        let (file, map) = (self.source.path().display(), self.common.map.as_deref());
-        let map = map.map_or(String::new(), |map| format!(" --map {}", map.display()));
-        format!("with a second copy, `lumeviqo mend {file}{map} --copy SECOND -o OUT`")
+        format!("with a second copy, `{}`", self.common.mending(self.source.path()))
     }
 
-    /// The file, the page and what goes with it, to be asked once more.
+    /// The same question.
     fn again(&self) -> String {
-        let map = self.common.map.as_deref().map_or(String::new(), |map| format!(" --map {}", map.display()));
-        let start = if self.source.start() > 0 { format!(" --start {}", self.source.start()) } else { String::new() };
-        format!("{} {}{map}{start}", self.source.path().display(), self.page.number)
+        format!("{} {}", self.common.command("page", self.source.path()), self.page.number)
     }
 }

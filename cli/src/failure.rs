@@ -2,6 +2,8 @@
 use std::io;
 use std::path::Path;
 
+use crate::words::name_of;
+
 pub type Result<T> = std::result::Result<T, Failure>;
 
 #[derive(Debug)]
@@ -33,30 +35,49 @@ impl Failure {
         }
     }
 
-    /// A file that could not be opened, read or written.
+    /// A file that could not be opened or read.
     pub fn of(path: &Path, error: &io::Error) -> Failure {
-        Failure::NotDone(format!("{}: {}", path.display(), reason(error)))
+        let advice = match error.kind() {
+            io::ErrorKind::NotFound => ": look whether the name is right",
+            io::ErrorKind::PermissionDenied => ": ask for the right to read it",
+            _ if error.raw_os_error() == Some(libc::EIO) => ": rescue the disc with ddrescue first, and read the image with its map",
+            _ => "",
+        };
+        Failure::about(path, &format!("{}{advice}", reason(error)))
+    }
+
+    /// A file that could not be made or written.
+    pub fn of_writing(path: &Path, error: &io::Error) -> Failure {
+        let advice = match error.kind() {
+            io::ErrorKind::NotFound => ": look whether its folder is there",
+            io::ErrorKind::PermissionDenied | io::ErrorKind::ReadOnlyFilesystem => ": choose a folder that you may write to",
+            _ => room(error),
+        };
+        Failure::about(path, &format!("{}{advice}", reason(error)))
+    }
+
+    /// What is wrong with a file.
+    pub fn about(path: &Path, words: &str) -> Failure {
+        Failure::NotDone(format!("{}: {words}", name_of(path)))
     }
 
     /// Standard output, which others may close.
     pub fn of_output(error: &io::Error) -> Failure {
         match error.kind() {
             io::ErrorKind::BrokenPipe => Failure::ClosedPipe,
-            _ => Failure::NotDone(format!("standard output: {}", reason(error))),
+            _ => Failure::NotDone(format!("standard output: {}{}", reason(error), room(error))),
         }
     }
 }
 
-/// The system's words without its number, and what to do where that is plain.
+/// The system's words without its number.
 pub fn reason(error: &io::Error) -> String {
-    let text = error.to_string();
-    let words = text.split(" (os error").next().unwrap_or_default();
-    let advice = match error.kind() {
-        io::ErrorKind::NotFound => ": look whether the name is right",
-        io::ErrorKind::PermissionDenied => ": ask for the right to it, or take a copy that you may read",
+    error.to_string().split(" (os error").next().unwrap_or_default().into()
+}
+
+fn room(error: &io::Error) -> &'static str {
+    match error.kind() {
         io::ErrorKind::StorageFull | io::ErrorKind::QuotaExceeded | io::ErrorKind::FileTooLarge => ": make room, or write to another disc",
-        _ if error.raw_os_error() == Some(libc::EIO) => ": rescue the disc with ddrescue first, and read the image with its map",
         _ => "",
-    };
-    format!("{words}{advice}")
+    }
 }

@@ -7,6 +7,7 @@ mod manual;
 mod map;
 mod mend;
 mod newfile;
+mod notes;
 mod outcome;
 mod output;
 mod paint;

@@ -54,7 +54,7 @@ impl Outcome {
 
     pub fn meaning(self) -> &'static str {
         match self {
-            Outcome::Unallocated => "all zero: never written",
+            Outcome::Unallocated => "all zero, as pages are that were never written",
             Outcome::Superblock => "page 0, the file's own fields",
             Outcome::Verified => "its row count confirms the reading",
             Outcome::Calibrated => "two or more exact sectors agree",

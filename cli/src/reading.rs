@@ -5,7 +5,7 @@ use lumeviqo::{Confidence, Leniency, Options, PAGE, Reading, Refusal, Repair, So
 
 use crate::failure::Result;
 use crate::outcome::Outcome;
-use crate::source::{BLOCK, Source};
+use crate::source::{BLOCK, Source, blocks_of};
 
 pub struct PageReading {
     pub number: u64,
@@ -47,29 +47,31 @@ struct Scanned {
     lost: bool,
 }
 
-/// Pages of whole blocks: those that are wanted, the first page of the blocks, and their bytes.
+/// Pages of whole blocks: those that are wanted, the first page of the blocks, their bytes, and which of them are all zero.
 pub struct Part<'a> {
     pub wanted: Range<u64>,
     pub first: u64,
     pub bytes: &'a [u8],
+    pub zero: &'a [bool],
 }
 
 impl<'a> Part<'a> {
     /// Each block by itself, with those of its pages that are wanted.
     pub fn blocks(&self) -> impl Iterator<Item = Part<'a>> {
         let (wanted, first) = (self.wanted.clone(), self.first);
-        self.bytes.chunks(BLOCK as usize * PAGE).enumerate().map(move |(n, bytes)| {
+        let blocks = self.bytes.chunks(BLOCK as usize * PAGE).zip(self.zero.chunks(BLOCK as usize));
+        blocks.enumerate().map(move |(n, (bytes, zero))| {
             let first = first + n as u64 * BLOCK;
             let wanted = wanted.start.max(first)..wanted.end.min(first + BLOCK);
-            Part { wanted, first, bytes }
+            Part { wanted, first, bytes, zero }
         })
     }
 
     pub fn read(&self, source: &Source, options: Options) -> Vec<PageReading> {
         let mut readings = Vec::with_capacity((self.wanted.end - self.wanted.start) as usize);
         for block in self.blocks() {
-            let pages = (block.first..).zip(block.bytes.chunks(PAGE));
-            let stored = pages.map(|(number, bytes)| Stored::new(number, bytes, source.unread_sectors(number)));
+            let pages = (block.first..).zip(block.bytes.chunks(PAGE)).zip(block.zero);
+            let stored = pages.map(|((number, bytes), zero)| Stored::known(number, bytes, source.unread_sectors(number), *zero));
             readings.extend(read_block(stored, &block.wanted, options));
         }
         readings
@@ -80,7 +82,8 @@ impl<'a> Part<'a> {
 pub fn read_page(source: &Source, number: u64, options: Options) -> Result<(PageReading, Vec<u8>)> {
     let (mut bytes, wanted) = (Vec::new(), number..number + 1);
     source.read_blocks(&wanted, &mut bytes)?;
-    let part = Part { first: number / BLOCK * BLOCK, wanted, bytes: &bytes };
+    let zero: Vec<bool> = bytes.chunks(PAGE).map(is_zero).collect();
+    let part = Part { first: blocks_of(&wanted).start, wanted, bytes: &bytes, zero: &zero };
     let page = part.read(source, options).remove(0);
     let at = (number % BLOCK) as usize * PAGE;
     let stored = bytes[at..bytes.len().min(at + PAGE)].to_vec();
@@ -98,7 +101,12 @@ pub struct Stored<'a> {
 
 impl<'a> Stored<'a> {
     pub fn new(number: u64, bytes: &'a [u8], unread: u8) -> Self {
-        Stored { number, bytes, unread, zero: is_zero(bytes), repair: None }
+        Stored::known(number, bytes, unread, is_zero(bytes))
+    }
+
+    /// One that is known to be all zero or not. Of zeros always the same ones are asked about, which the processor has at hand.
+    fn known(number: u64, bytes: &'a [u8], unread: u8, zero: bool) -> Self {
+        Stored { number, bytes: if zero { &ZEROS[..bytes.len()] } else { bytes }, unread, zero, repair: None }
     }
 
     /// The same with the summary that was kept while its sectors were replaced.
@@ -242,8 +250,9 @@ fn refused(refusal: &Refusal) -> Outcome {
     }
 }
 
-/// By blocks with no way out inside one, which become vector code.
-pub fn is_zero(page: &[u8]) -> bool {
-    let (blocks, rest) = page.as_chunks::<64>();
-    blocks.iter().all(|block| block.iter().fold(0, |sum, byte| sum | byte) == 0) && rest.iter().all(|byte| *byte == 0)
+static ZEROS: [u8; PAGE] = [0; PAGE];
+
+/// By comparison, which the system's library does with the widest numbers that the processor has.
+pub fn is_zero(bytes: &[u8]) -> bool {
+    bytes.chunks(PAGE).all(|page| page == &ZEROS[..page.len()])
 }

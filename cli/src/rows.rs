@@ -1,15 +1,18 @@
 //! `lumeviqo rows`: the rows of every page that can be read.
 use std::io::Write;
+use std::path::Path;
 
 use lumeviqo::{Options, Row, SECTOR};
 use serde_json::json;
 
 use crate::args::{Common, PageRange, Rows};
 use crate::failure::Result;
+use crate::notes::notes;
 use crate::output::Output;
 use crate::progress::Progress;
 use crate::reading::{Accepted, Answer, PageReading};
 use crate::sweep::Sweep;
+use crate::tally::Tally;
 use crate::words::counted;
 
 #[derive(Clone, Copy)]
@@ -17,13 +20,6 @@ enum Form {
     Text,
     Csv,
     Json,
-}
-
-/// The lines of a part of the file, and how its pages fared.
-struct Part {
-    lines: Vec<u8>,
-    unread_pages: u64,
-    refused_directories: u64,
 }
 
 pub fn run(asked: &Rows, common: &Common) -> Result<u8> {
@@ -44,47 +40,47 @@ pub fn run(asked: &Rows, common: &Common) -> Result<u8> {
         Form::Json => {}
     }
     let progress = Progress::new(sweep.range.end - sweep.range.start, common.quiet);
-    let (mut unread_pages, mut refused_directories) = (0, 0);
+    let mut tally = Tally::default();
     sweep.run(
         |pages| {
             let readings = pages.read(&sweep.source, sweep.options);
             progress.read(&readings);
-            Ok(part(&readings, sweep.options, form))
+            Ok((Tally::of(&readings), lines(&readings, sweep.options, form)))
         },
-        |part| {
-            unread_pages += part.unread_pages;
-            refused_directories += part.refused_directories;
-            out.bytes(&part.lines)
+        |(part, lines)| {
+            tally.merge(part);
+            out.bytes(&lines)
         },
     )?;
     drop(progress);
-    out.notes(&notes(unread_pages, refused_directories, &asked.file.display().to_string()))?;
-    Ok(u8::from(unread_pages > 0))
+    let mut all = notes(&sweep.source, &tally, common)?;
+    all.extend(own_notes(&tally, &asked.file, common));
+    out.notes(&all)?;
+    Ok(u8::from(tally.refused() > 0))
 }
 
-fn notes(unread_pages: u64, refused_directories: u64, file: &str) -> Vec<String> {
+fn own_notes(tally: &Tally, file: &Path, common: &Common) -> Vec<String> {
     let mut notes = Vec::new();
-    if unread_pages > 0 {
-        let pages = counted(unread_pages, "page");
-        notes.push(format!("{pages} not read, so rows may be missing: `lumeviqo survey {file}` says why"));
+    if tally.refused() > 0 {
+        let (pages, command) = (counted(tally.refused(), "page"), common.command("survey", file));
+        notes.push(format!("{pages} not read, so rows may be missing: `{command}` says why"));
     }
-    if refused_directories > 0 {
-        let pages = counted(refused_directories, "page");
+    let directories: u64 = tally.row_answers.values().sum();
+    if directories > 0 {
+        let pages = counted(directories, "page");
         notes.push(format!("the slot directory of {pages} is not confirmed, so no rows of those: `--allow directory` takes it"));
     }
     notes
 }
 
-fn part(readings: &[PageReading], options: Options, form: Form) -> Part {
-    let mut part = Part { lines: Vec::new(), unread_pages: 0, refused_directories: 0 };
+fn lines(readings: &[PageReading], options: Options, form: Form) -> Vec<u8> {
+    let mut lines = Vec::new();
     for page in readings {
-        part.unread_pages += u64::from(!page.outcome.is_read());
         if let Answer::Accepted(accepted) = &page.answer {
-            part.refused_directories += u64::from(accepted.row_count.is_err());
-            put_rows(&mut part.lines, page, accepted, options, form);
+            put_rows(&mut lines, page, accepted, options, form);
         }
     }
-    part
+    lines
 }
 
 fn put_rows(lines: &mut Vec<u8>, page: &PageReading, accepted: &Accepted, options: Options, form: Form) {

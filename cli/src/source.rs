@@ -5,14 +5,39 @@ use std::ops::Range;
 use std::os::fd::AsRawFd;
 use std::os::unix::fs::{FileExt, FileTypeExt};
 use std::path::{Path, PathBuf};
+use std::sync::atomic::{AtomicU64, Ordering};
 
 use lumeviqo::PAGE;
 
 use crate::failure::{Failure, Result};
 use crate::map::Map;
+use crate::words::name_of;
 
 pub const BLOCK: u64 = lumeviqo::BLOCK_PAGES;
 const PAGE_BYTES: u64 = PAGE as u64;
+
+/// The pages of the blocks that these lie in; of the last block a file may have fewer.
+pub fn blocks_of(pages: &Range<u64>) -> Range<u64> {
+    pages.start / BLOCK * BLOCK..pages.end.next_multiple_of(BLOCK)
+}
+
+/// Where data was last found, so that the system is not asked again for each part of it. Threads that note at once may lose what they know, and ask.
+#[derive(Default)]
+struct KnownData {
+    from: AtomicU64,
+    to: AtomicU64,
+}
+
+impl KnownData {
+    fn has(&self, range: &Range<u64>) -> bool {
+        self.from.load(Ordering::Relaxed) <= range.start && range.end <= self.to.load(Ordering::Relaxed)
+    }
+
+    fn note(&self, data: Range<u64>) {
+        self.from.store(data.start, Ordering::Relaxed);
+        self.to.store(data.end, Ordering::Relaxed);
+    }
+}
 
 pub struct Source {
     path: PathBuf,
@@ -25,6 +50,7 @@ pub struct Source {
     end: u64,
     /// Where the pages end: with the file, or behind it with those that its map has as unread.
     pages_end: u64,
+    data: KnownData,
 }
 
 impl Source {
@@ -35,11 +61,13 @@ impl Source {
     pub fn with_map(path: &Path, map: Option<Map>, start: u64) -> Result<Source> {
         let (file, end) = open_file(path)?;
         if start >= end {
-            let last = format!("--start {start} is not inside it, and its first page would begin there");
-            return Err(Failure::NotDone(format!("{}: it has {end} bytes: {last}", path.display())));
+            return Err(Failure::about(
+                path,
+                &format!("it has {end} bytes: --start {start} is not inside it, and its first page would begin there"),
+            ));
         }
         let pages_end = map.as_ref().map_or(end, |map| end_with_unread(&file, map, start, end));
-        Ok(Source { path: path.into(), name: path.display().to_string(), file, map, start, end, pages_end })
+        Ok(Source { path: path.into(), name: name_of(path), file, map, start, end, pages_end, data: KnownData::default() })
     }
 
     pub fn path(&self) -> &Path {
@@ -64,19 +92,19 @@ impl Source {
         self.end
     }
 
-    /// Bytes from --start on, and with a map also those that it has behind the file's end.
+    /// Bytes of the page file, which begins at --start.
     pub fn size(&self) -> u64 {
-        self.pages_end - self.start
+        self.end - self.start
     }
 
     /// A last page that is cut short is one too.
     pub fn page_count(&self) -> u64 {
-        self.size().div_ceil(PAGE_BYTES)
+        (self.pages_end - self.start).div_ceil(PAGE_BYTES)
     }
 
     /// How many pages the file itself has nothing of.
     pub fn pages_behind_the_end(&self) -> u64 {
-        self.page_count() - (self.end - self.start).div_ceil(PAGE_BYTES)
+        self.page_count() - self.size().div_ceil(PAGE_BYTES)
     }
 
     /// Pages up to this place are there too, if the map has them as unread behind the file's end: a further copy goes on that far.
@@ -102,14 +130,14 @@ impl Source {
         self.map.as_ref().map_or(0, |map| map.unread_sectors(self.place(page)))
     }
 
-    /// The bytes of the blocks that these pages lie in; zeros where the map has unread bytes behind the file's end.
-    pub fn read_blocks(&self, pages: &Range<u64>, bytes: &mut Vec<u8>) -> Result<()> {
-        let (from, to) = (pages.start / BLOCK * BLOCK, pages.end.next_multiple_of(BLOCK));
-        self.read_pages(from..to.min(self.page_count()), bytes)
+    /// The bytes of the blocks that these pages lie in; zeros where the map has unread bytes behind the file's end. Whether all of it is a hole.
+    pub fn read_blocks(&self, pages: &Range<u64>, bytes: &mut Vec<u8>) -> Result<bool> {
+        let blocks = blocks_of(pages);
+        self.read_pages(blocks.start..blocks.end.min(self.page_count()), bytes)
     }
 
-    /// The bytes of these pages alone.
-    pub fn read_pages(&self, pages: Range<u64>, bytes: &mut Vec<u8>) -> Result<()> {
+    /// The same of these pages alone.
+    pub fn read_pages(&self, pages: Range<u64>, bytes: &mut Vec<u8>) -> Result<bool> {
         let (first, behind) = (self.place(pages.start), self.place(pages.end).min(self.pages_end));
         bytes.resize((behind - first) as usize, 0);
         let there = behind.min(self.end).saturating_sub(first) as usize;
@@ -117,27 +145,42 @@ impl Source {
         self.fill(&mut bytes[..there], first)
     }
 
-    fn fill(&self, bytes: &mut [u8], place: u64) -> Result<()> {
-        if self.is_hole(place..place + bytes.len() as u64) {
+    fn fill(&self, bytes: &mut [u8], place: u64) -> Result<bool> {
+        let hole = self.is_hole(place..place + bytes.len() as u64);
+        if hole {
             bytes.fill(0);
-            return Ok(());
+        } else {
+            self.file.read_exact_at(bytes, place).map_err(|e| self.unreadable(&e))?;
         }
-        self.file.read_exact_at(bytes, place).map_err(|e| self.unreadable(&e))
+        Ok(hole)
     }
 
-    /// Whether the system knows that nothing was ever written there: such zeros need not be read, which is twenty times as fast on a sparse image.
+    /// Whether the system knows that nothing was ever written there: such zeros need not be read, which is ten times as fast on a sparse image.
     /// A file that has become shorter has no holes.
     fn is_hole(&self, range: Range<u64>) -> bool {
-        // SAFETY: it takes numbers alone. The file's own position is not used.
-        let data = unsafe { libc::lseek(self.file.as_raw_fd(), range.start as i64, libc::SEEK_DATA) };
-        let none = data < 0 && io::Error::last_os_error().raw_os_error() == Some(libc::ENXIO);
-        (none || data >= 0 && data as u64 >= range.end) && self.file.metadata().is_ok_and(|file| file.len() >= range.end)
+        if self.data.has(&range) {
+            return false;
+        }
+        let Some(data) = self.next(range.start, libc::SEEK_DATA) else { return self.is_long_enough(&range) };
+        self.data.note(data..self.next(data, libc::SEEK_HOLE).unwrap_or(data));
+        data >= range.end && self.is_long_enough(&range)
+    }
+
+    /// Where the next data or the next hole begins. The file's own position is not used.
+    fn next(&self, place: u64, what: i32) -> Option<u64> {
+        // SAFETY: it takes numbers alone.
+        let next = unsafe { libc::lseek(self.file.as_raw_fd(), place as i64, what) };
+        if next < 0 && io::Error::last_os_error().raw_os_error() != Some(libc::ENXIO) { Some(place) } else { u64::try_from(next).ok() }
+    }
+
+    fn is_long_enough(&self, range: &Range<u64>) -> bool {
+        self.file.metadata().is_ok_and(|file| file.len() >= range.end)
     }
 
     /// Bytes of the image, wherever its pages are.
     pub fn read_bytes(&self, range: Range<u64>, bytes: &mut Vec<u8>) -> Result<()> {
         bytes.resize((range.end - range.start) as usize, 0);
-        self.fill(bytes, range.start)
+        self.fill(bytes, range.start).map(|_| ())
     }
 
     /// What the system keeps of the file in memory is given up, so that the next reading is from the disc.
@@ -152,7 +195,7 @@ impl Source {
     fn unreadable(&self, error: &io::Error) -> Failure {
         if error.kind() == io::ErrorKind::UnexpectedEof {
             let words = "it became shorter while it was read: let whatever writes to it end, and begin again";
-            return Failure::NotDone(format!("{}: {words}", self.path.display()));
+            return Failure::about(&self.path, words);
         }
         Failure::of(&self.path, error)
     }
@@ -183,14 +226,14 @@ fn declared_pages(file: &File, start: u64) -> Option<u64> {
 
 fn read_map(path: &Path) -> Result<Map> {
     let text = std::fs::read(path).map_err(|e| Failure::of(path, &e))?;
-    Map::parse(&text).map_err(|e| Failure::NotDone(format!("{}: {e}", path.display())))
+    Map::parse(&text).map_err(|e| Failure::about(path, &e.to_string()))
 }
 
 /// The file and its length. A pipe has no places to read at, and opening one waits for a writer.
 fn open_file(path: &Path) -> Result<(File, u64)> {
     let failure = |e: io::Error| Failure::of(path, &e);
     let kind = std::fs::metadata(path).map_err(failure)?.file_type();
-    let wrong = |words: &str| Err(Failure::NotDone(format!("{}: {words}", path.display())));
+    let wrong = |words: &str| Err(Failure::about(path, words));
     if kind.is_dir() {
         return wrong("this is a directory: name the page file in it");
     }

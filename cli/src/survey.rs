@@ -5,6 +5,7 @@ use serde_json::json;
 use crate::args::{Common, Survey};
 use crate::failure::{Failure, Result};
 use crate::newfile::NewFile;
+use crate::notes::notes;
 use crate::outcome::Outcome;
 use crate::output::Output;
 use crate::paint::paint;
@@ -30,9 +31,7 @@ struct Surveyed<'a> {
     tally: Tally,
     /// A byte a page, for the pictures.
     outcomes: Vec<Outcome>,
-    /// Page 0's, where it is not that of SQL Anywhere 17.
-    other_magic: Option<u32>,
-    cut_short: Option<(u64, usize)>,
+    notes: Vec<String>,
     interrupted: bool,
 }
 
@@ -41,7 +40,6 @@ struct Part {
     tally: Tally,
     outcomes: Vec<Outcome>,
     csv: Vec<u8>,
-    cut_short: Option<(u64, usize)>,
 }
 
 pub fn run(asked: &Survey, common: &Common) -> Result<u8> {
@@ -60,11 +58,11 @@ pub fn run(asked: &Survey, common: &Common) -> Result<u8> {
     if let Some(file) = svg.filter(|_| !surveyed.interrupted) {
         surveyed.draw(file)?;
     }
-    out.notes(&surveyed.notes())?;
+    out.notes(&surveyed.notes)?;
     if surveyed.interrupted {
         return Err(Failure::Interrupted);
     }
-    Ok(u8::from(surveyed.tally.unread_pages() > 0))
+    Ok(u8::from(surveyed.tally.refused() > 0))
 }
 
 fn go_through<'a>(sweep: &'a Sweep, csv: bool, common: &Common, out: &mut Output) -> Result<Surveyed<'a>> {
@@ -75,8 +73,7 @@ fn go_through<'a>(sweep: &'a Sweep, csv: bool, common: &Common, out: &mut Output
         first,
         tally: Tally::default(),
         outcomes: Vec::with_capacity((sweep.range.end - first) as usize),
-        other_magic: other_magic(source)?,
-        cut_short: None,
+        notes: Vec::new(),
         interrupted: false,
     };
     let progress = Progress::new(sweep.range.end - first, common.quiet);
@@ -89,7 +86,6 @@ fn go_through<'a>(sweep: &'a Sweep, csv: bool, common: &Common, out: &mut Output
         |part| {
             all.tally.merge(part.tally);
             all.outcomes.extend(part.outcomes);
-            all.cut_short = all.cut_short.or(part.cut_short);
             out.bytes(&part.csv)
         },
     );
@@ -97,29 +93,15 @@ fn go_through<'a>(sweep: &'a Sweep, csv: bool, common: &Common, out: &mut Output
         Err(Failure::Interrupted) => all.interrupted = true,
         other => other?,
     }
+    all.notes = notes(source, &all.tally, common)?;
     Ok(all)
 }
 
-/// None too where sector 0 of page 0 was never read: what stands there says nothing.
-fn other_magic(source: &Source) -> Result<Option<u32>> {
-    let mut page = Vec::new();
-    source.read_pages(0..1, &mut page)?;
-    Ok(match lumeviqo::superblock_checked(&page) {
-        Err(Refusal::BadMagic(magic)) if source.unread_sectors(0) & 1 == 0 => Some(magic),
-        _ => None,
-    })
-}
-
 fn part(readings: &[PageReading], csv: bool) -> Part {
-    let cut_short = readings.iter().find_map(|page| match page.answer {
-        Answer::CutShort(length) => Some((page.number, length)),
-        _ => None,
-    });
     Part {
         tally: Tally::of(readings),
         outcomes: readings.iter().map(|page| page.outcome).collect(),
         csv: if csv { csv_lines(readings) } else { Vec::new() },
-        cut_short,
     }
 }
 
@@ -176,7 +158,7 @@ impl Surveyed<'_> {
         object.insert("pages".into(), self.tally.pages().into());
         object.extend(self.tally.json());
         object.insert("interrupted".into(), self.interrupted.into());
-        object.insert("notes".into(), json!(self.notes()));
+        object.insert("notes".into(), json!(self.notes));
         serde_json::Value::Object(object).to_string()
     }
 
@@ -196,10 +178,12 @@ impl Surveyed<'_> {
         say("confidence", listed(tally.confidences()));
         say("page types", listed(tally.types.clone()));
         say("rows", self.rows());
+        if tally.warnings > 0 {
+            say("warnings", format!("{} read with warnings, which `page` and --csv show", counted(tally.warnings, "page")));
+        }
         if let Some(map) = self.source.map() {
-            let (read, unread) = (grouped(map.read_bytes()), grouped(map.unread_bytes()));
             let sectors = counted(tally.unread_sectors, "sector");
-            say("map", format!("{read} bytes read, {unread} unread; {sectors} of these pages unread"));
+            say("map", format!("{} bytes read; {sectors} of these pages unread", grouped(map.read_bytes())));
         }
         if let Some(columns) = out.columns {
             lines.push(String::new());
@@ -229,67 +213,11 @@ impl Surveyed<'_> {
         format!("{rows}; not listed of {}: {why}", counted(refused, "page"))
     }
 
-    /// What looks wrong, and what to do.
-    fn notes(&self) -> Vec<String> {
-        [self.note_of_magic(), self.note_of_map(), self.note_of_zeros(), self.note_of_cut(), self.note_of_blocks(), self.note_of_unread()]
-            .into_iter()
-            .flatten()
-            .collect()
-    }
-
-    fn note_of_magic(&self) -> Option<String> {
-        let magic = self.other_magic.filter(|_| self.first == 0)?;
-        let expected = "SQL Anywhere 17's is da7aba5e";
-        Some(format!("page 0 has the magic {magic:08x}, and {expected}: if the page file begins later in an image, say where with --start"))
-    }
-
-    fn note_of_map(&self) -> Option<String> {
-        let (map, end, behind) = (self.source.map()?, self.source.end(), self.source.pages_behind_the_end());
-        if behind > 0 {
-            return Some(format!("{} behind the end of the file are unread by the map, and counted as such", counted(behind, "page")));
-        }
-        if map.has_read(end..u64::MAX) {
-            return Some("the map has bytes as read that lie behind the end of the file: look whether it is the map of this file".into());
-        }
-        let missing = map.end().saturating_sub(end);
-        (missing > 0)
-            .then(|| format!("the map has {} unread bytes behind the end of the file: pages may be missing there", grouped(missing)))
-    }
-
-    fn note_of_zeros(&self) -> Option<String> {
-        let zeros = self.tally.count(Outcome::Unallocated);
-        let unknown = self.source.map().is_none() && zeros > 0;
-        let advice = "if it was rescued from a disc, give its ddrescue map with --map";
-        unknown.then(|| {
-            format!("{} of zeros, taken as unallocated; a page that could not be read is zeros too: {advice}", counted(zeros, "page"))
-        })
-    }
-
-    fn note_of_cut(&self) -> Option<String> {
-        let (page, length) = self.cut_short?;
-        let causes = "the file was cut short, or --start is not where its first page begins";
-        Some(format!("the last page, {page}, has {length} of {} bytes: {causes}", header::PAGE_LENGTH))
-    }
-
-    /// Blocks of more than one bv are not rare in sound files, a majority of them is.
-    fn note_of_blocks(&self) -> Option<String> {
-        let (blocks, divided) = (self.tally.blocks, self.tally.divided_blocks);
-        let reason = "so it is when the page numbers are wrong: look whether --start is where page 0 begins";
-        (divided * 2 > blocks)
-            .then(|| format!("in {} of {} the pages disagree in bv: {reason}", grouped(divided), counted(blocks, "block")))
-    }
-
-    fn note_of_unread(&self) -> Option<String> {
-        let unread = self.tally.count(Outcome::Unread);
-        let command = format!("lumeviqo mend {} --map MAP --copy SECOND --copy-map MAP2 -o OUT", self.source.name());
-        (unread > 0).then(|| format!("sectors of {} are unread: with a second copy, `{command}`", counted(unread, "page")))
-    }
-
     fn draw(&self, mut file: NewFile) -> Result<()> {
         let name = self.source.path().file_name().unwrap_or_default().to_string_lossy();
-        let subtitle = format!("{}, {} not read", self.extent(), grouped(self.tally.unread_pages()));
+        let subtitle = format!("{}, {} not read", self.extent(), grouped(self.tally.refused()));
         let picture = Picture { name: &name, first: self.first, outcomes: &self.outcomes, subtitle: &subtitle };
-        picture::write(file.file(), &picture).map_err(|e| Failure::of(file.part(), &e))?;
+        picture::write(file.file(), &picture).map_err(|e| Failure::of_writing(file.part(), &e))?;
         file.keep()
     }
 }

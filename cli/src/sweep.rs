@@ -1,36 +1,43 @@
-//! All pages of a range, read by one thread ahead of those that decode them, and handed on in page order: a batch at a time, in a few buffers, so
-//! that memory stays the same however long the file is.
+//! All pages of a range, read and decoded by several threads, and handed on in page order: a batch at a time, so that memory stays the same however
+//! long the file is.
+use std::mem::MaybeUninit;
 use std::ops::Range;
 use std::path::Path;
 use std::sync::atomic::{AtomicBool, Ordering};
-use std::sync::mpsc::{Receiver, Sender, SyncSender, channel, sync_channel};
+use std::sync::{Condvar, Mutex, PoisonError};
 
 use lumeviqo::{Options, PAGE};
 use rayon::prelude::*;
 
 use crate::args::{Common, PageRange};
 use crate::failure::{Failure, Result};
-use crate::reading::Part;
-use crate::source::{BLOCK, Source};
+use crate::reading::{Part, is_zero};
+use crate::source::{BLOCK, Source, blocks_of};
 
-/// Two blocks: long enough to be worth handing to a thread, short enough that threads end a batch nearly together.
+/// Two blocks: long enough to be read at once, short enough that what was read is still at hand when it is decoded.
 const PART: u64 = 2 * BLOCK;
-const PARTS_A_THREAD: u64 = 8;
-/// One is decoded, one waits, one is read.
-const BUFFERS: usize = 3;
-
-/// Pages that were read: those that are wanted, the first of the blocks that they lie in, and the bytes of these blocks.
-struct Batch {
-    wanted: Range<u64>,
-    bytes: Vec<u8>,
-}
+/// Parts of a batch: waking the threads for it costs little beside it, also where its pages are zeros; and what its pages give fits into memory.
+const BATCH: u64 = 128;
 
 static INTERRUPTED: AtomicBool = AtomicBool::new(false);
 
-/// From now on Ctrl-C is looked at between parts, so that nothing is left half done.
+/// From now on Ctrl-C and the like are looked at between parts, so that nothing is left half done. What whoever started the program had ignored, as
+/// nohup does, stays ignored.
 pub fn watch_for_interrupts() -> Result<()> {
+    let ignored: Vec<i32> = [libc::SIGINT, libc::SIGTERM, libc::SIGHUP].into_iter().filter(|signal| is_ignored(*signal)).collect();
     let noted = || INTERRUPTED.store(true, Ordering::Relaxed);
-    ctrlc::set_handler(noted).map_err(|e| Failure::NotDone(format!("interrupts can't be watched for: {e}")))
+    ctrlc::set_handler(noted).map_err(|e| Failure::NotDone(format!("interrupts can't be watched for: {e}")))?;
+    for signal in ignored {
+        // SAFETY: to ignore a signal needs no handler that would have to be safe.
+        unsafe { libc::signal(signal, libc::SIG_IGN) };
+    }
+    Ok(())
+}
+
+fn is_ignored(signal: i32) -> bool {
+    let mut action = MaybeUninit::<libc::sigaction>::zeroed();
+    // SAFETY: it writes the present action to the place lent for it, or nothing, and that is zeros, which is an action.
+    unsafe { libc::sigaction(signal, std::ptr::null(), action.as_mut_ptr()) == 0 && action.assume_init().sa_sigaction == libc::SIG_IGN }
 }
 
 pub fn interrupted() -> bool {
@@ -64,71 +71,75 @@ impl Sweep {
         Ok(Sweep { source, range, options: common.options(), threads: common.threads.unwrap_or_else(cores) })
     }
 
-    pub fn pool(&self) -> Result<rayon::ThreadPool> {
-        let pool = rayon::ThreadPoolBuilder::new().num_threads(self.threads).build();
-        pool.map_err(|e| Failure::NotDone(format!("{} threads can't be had: {e}", self.threads)))
-    }
-
-    /// `work` is done on each part by any thread, `each` on what it gives, in order, by this one.
-    pub fn run<T: Send>(&self, work: impl Fn(Part) -> Result<T> + Sync, each: impl FnMut(T) -> Result<()>) -> Result<()> {
-        let pool = self.pool()?;
-        let batches = parts(&self.range, PART * PARTS_A_THREAD * self.threads as u64);
-        let (filled, batches_read) = sync_channel(1);
-        let (emptied, buffers) = channel();
-        std::thread::scope(|scope| {
-            scope.spawn(move || read_ahead(&self.source, batches, &buffers, &filled));
-            hand_on(&pool, batches_read, emptied, work, each)
-        })
-    }
-}
-
-/// Ends where nobody takes what was read.
-fn read_ahead(source: &Source, batches: impl Iterator<Item = Range<u64>>, buffers: &Receiver<Vec<u8>>, filled: &SyncSender<Result<Batch>>) {
-    for wanted in batches {
-        let Ok(mut bytes) = buffers.recv() else { return };
-        let read = source.read_blocks(&wanted, &mut bytes);
-        if filled.send(read.map(|()| Batch { wanted, bytes })).is_err() {
-            return;
-        }
-    }
-}
-
-/// It owns its ends of the channels, so that the reader is not waited for in vain when it gives up.
-fn hand_on<T: Send>(
-    pool: &rayon::ThreadPool,
-    batches: Receiver<Result<Batch>>,
-    emptied: Sender<Vec<u8>>,
-    work: impl Fn(Part) -> Result<T> + Sync,
-    mut each: impl FnMut(T) -> Result<()>,
-) -> Result<()> {
-    (0..BUFFERS).for_each(|_| give(&emptied, Vec::new()));
-    for batch in batches {
-        let Batch { wanted, bytes } = batch?;
-        let first = wanted.start / BLOCK * BLOCK;
-        let part = |range: Range<u64>| {
+    /// `work` is done on each part by any thread, `each` on what it gives, in order, by this one. There is one thread more than may decode at a time,
+    /// so that one reads meanwhile, and then decodes what it has at hand. Zeros are hardly more work than their reading, and take no turn.
+    pub fn run<T: Send>(&self, work: impl Fn(Part) -> Result<T> + Sync, mut each: impl FnMut(T) -> Result<()>) -> Result<()> {
+        let pool = pool_of(self.threads + 1)?;
+        let (turns, rooms) = (Turns::new(self.threads), Rooms::default());
+        let part = |wanted: Range<u64>| {
             if interrupted() {
                 return Err(Failure::Interrupted);
             }
-            let (from, to) = blocks_of(&range);
-            let places = [from, to].map(|page| ((page - first) as usize * PAGE).min(bytes.len()));
-            work(Part { wanted: range, first: from, bytes: &bytes[places[0]..places[1]] })
+            rooms.lend(|bytes| {
+                let hole = self.source.read_blocks(&wanted, bytes)?;
+                let zero: Vec<bool> = bytes.chunks(PAGE).map(|page| hole || is_zero(page)).collect();
+                let part = Part { first: blocks_of(&wanted).start, wanted, bytes, zero: &zero };
+                if zero.contains(&false) { turns.take(|| work(part)) } else { work(part) }
+            })
         };
-        let ranges: Vec<Range<u64>> = parts(&wanted, PART).collect();
-        let done: Vec<Result<T>> = pool.install(|| ranges.into_par_iter().with_max_len(1).map(part).collect());
-        give(&emptied, bytes);
-        done.into_iter().try_for_each(|done| each(done?))?;
+        for batch in parts(&self.range, PART * BATCH) {
+            let ranges: Vec<Range<u64>> = parts(&batch, PART).collect();
+            let done: Vec<Result<T>> = pool.install(|| ranges.into_par_iter().with_max_len(1).map(part).collect());
+            done.into_iter().try_for_each(|done| each(done?))?;
+        }
+        Ok(())
     }
-    Ok(())
+
+    pub fn pool(&self) -> Result<rayon::ThreadPool> {
+        pool_of(self.threads)
+    }
 }
 
-/// A reader that has read all takes none.
-fn give(emptied: &Sender<Vec<u8>>, buffer: Vec<u8>) {
-    let _ = emptied.send(buffer);
+fn pool_of(threads: usize) -> Result<rayon::ThreadPool> {
+    let pool = rayon::ThreadPoolBuilder::new().num_threads(threads).build();
+    pool.map_err(|e| Failure::NotDone(format!("{threads} threads can't be had: {e}")))
 }
 
-/// The pages of the blocks that these lie in; the last block may have fewer.
-pub fn blocks_of(range: &Range<u64>) -> (u64, u64) {
-    (range.start / BLOCK * BLOCK, range.end.next_multiple_of(BLOCK))
+/// Memory that parts are read into, again and again: what the processor has at hand is not given back to the system.
+#[derive(Default)]
+struct Rooms(Mutex<Vec<Vec<u8>>>);
+
+impl Rooms {
+    fn lend<T>(&self, work: impl FnOnce(&mut Vec<u8>) -> T) -> T {
+        let free = || self.0.lock().unwrap_or_else(PoisonError::into_inner);
+        let mut room = free().pop().unwrap_or_default();
+        let done = work(&mut room);
+        free().push(room);
+        done
+    }
+}
+
+/// So many may work at a time.
+struct Turns {
+    left: Mutex<usize>,
+    given_back: Condvar,
+}
+
+impl Turns {
+    fn new(count: usize) -> Turns {
+        Turns { left: Mutex::new(count), given_back: Condvar::new() }
+    }
+
+    fn take<T>(&self, work: impl FnOnce() -> T) -> T {
+        let left = self.left.lock().unwrap_or_else(PoisonError::into_inner);
+        let mut left = self.given_back.wait_while(left, |left| *left == 0).unwrap_or_else(PoisonError::into_inner);
+        *left -= 1;
+        drop(left);
+        let done = work();
+        *self.left.lock().unwrap_or_else(PoisonError::into_inner) += 1;
+        self.given_back.notify_one();
+        done
+    }
 }
 
 /// The range in parts that end at multiples of `length`.

@@ -22,11 +22,14 @@ pub struct Tally {
     pub pages_with_rows: u64,
     /// Why a page that was read has no directory, by the answer's number.
     pub row_answers: BTreeMap<usize, u64>,
+    /// Pages that were accepted with a warning.
     pub warnings: u64,
     pub unread_sectors: u64,
     /// Blocks in which two pages or more say their bv by themselves, and of those the ones that say more than one.
     pub blocks: u64,
     pub divided_blocks: u64,
+    /// The page that the file ends inside of, and how many bytes it has.
+    pub cut_short: Option<(u64, usize)>,
 }
 
 impl Tally {
@@ -45,7 +48,7 @@ impl Tally {
         self.outcomes.iter().sum()
     }
 
-    pub fn unread_pages(&self) -> u64 {
+    pub fn refused(&self) -> u64 {
         Outcome::ALL.iter().filter(|outcome| !outcome.is_read()).map(|outcome| self.count(*outcome)).sum()
     }
 
@@ -82,6 +85,7 @@ impl Tally {
         self.unread_sectors += other.unread_sectors;
         self.blocks += other.blocks;
         self.divided_blocks += other.divided_blocks;
+        self.cut_short = self.cut_short.or(other.cut_short);
     }
 
     fn note(&mut self, page: &PageReading) {
@@ -96,8 +100,10 @@ impl Tally {
         if let Some(trailer) = &page.trailer {
             add(&mut self.types, type_name(trailer), 1);
         }
-        if let Answer::Accepted(accepted) = &page.answer {
-            self.note_accepted(accepted);
+        match &page.answer {
+            Answer::Accepted(accepted) => self.note_accepted(accepted),
+            Answer::CutShort(length) => self.cut_short = Some((page.number, *length)),
+            _ => {}
         }
     }
 
@@ -169,6 +175,6 @@ fn own_bv(page: &PageReading) -> Option<u8> {
 
 /// The type's name; a lower case letter is a type of its own to whoever counts.
 pub fn type_name(trailer: &Trailer) -> String {
-    let variant = if trailer.case_variant { ", lower case" } else { "" };
+    let variant = if trailer.case_variant { " (lower case)" } else { "" };
     format!("{}{variant}", trailer.page_type)
 }

@@ -1,4 +1,5 @@
 //! Small words and numbers as people read them.
+use std::path::Path;
 
 /// A number in groups of three: 5,242,880.
 pub fn grouped(number: u64) -> String {
@@ -7,9 +8,26 @@ pub fn grouped(number: u64) -> String {
     groups.join(",")
 }
 
+/// A file's name in a message: what would move the cursor, or break the line, is written out.
+pub fn name_of(path: &Path) -> String {
+    path.to_string_lossy().chars().flat_map(|c| if c.is_control() { c.escape_default().collect() } else { vec![c] }).collect()
+}
+
+/// A file's name as a shell takes it.
+pub fn quoted(path: &Path) -> String {
+    let name = path.to_string_lossy();
+    let plain = |c: char| c.is_alphanumeric() || "_-./+=:,@%".contains(c);
+    if !name.is_empty() && name.chars().all(plain) { name.into() } else { format!("'{}'", name.replace('\'', "'\\''")) }
+}
+
 /// `1 page`, `2 pages`.
 pub fn counted(number: u64, thing: &str) -> String {
     format!("{} {thing}{}", grouped(number), if number == 1 { "" } else { "s" })
+}
+
+/// `sector 3`, `sectors 0 3 7`.
+pub fn named_sectors(bits: u8) -> String {
+    format!("sector{} {}", if bits.count_ones() == 1 { "" } else { "s" }, sectors(bits))
 }
 
 /// The numbers of the sectors whose bits are set: `0 3 7`.
@@ -56,7 +74,15 @@ mod tests {
     }
 
     #[test]
+    fn names_are_quoted_where_a_shell_needs_it() {
+        let quoted = |name: &str| quoted(Path::new(name));
+        assert_eq!([quoted("a/b-1.db"), quoted("a b"), quoted("it's")], ["a/b-1.db", "'a b'", r"'it'\''s'"]);
+        assert_eq!(name_of(Path::new("a\nb\x1b[2J ä")), "a\\nb\\u{1b}[2J ä");
+    }
+
+    #[test]
     fn sectors_by_their_bits() {
         assert_eq!([sectors(0), sectors(1), sectors(0b1000_1001), sectors(255)], ["", "0", "0 3 7", "0 1 2 3 4 5 6 7"]);
+        assert_eq!([named_sectors(2), named_sectors(3)], ["sector 1", "sectors 0 1"]);
     }
 }

@@ -14,7 +14,7 @@ const GUESS: &str = "allow KEYSTREAM to take the likeliest";
 
 impl Display for Refusal {
     fn fmt(&self, f: &mut Formatter<'_>) -> Result {
-        self.what(f)?;
+        What(self).fmt(f)?;
         match self.page() {
             Some(0) => write!(f, ": {SUPERBLOCK}"),
             _ => self.advice(f),
@@ -24,10 +24,12 @@ impl Display for Refusal {
 
 impl std::error::Error for Refusal {}
 
-impl Refusal {
-    /// What was wrong.
-    fn what(&self, f: &mut Formatter<'_>) -> Result {
-        match self {
+/// What was wrong.
+struct What<'a>(&'a Refusal);
+
+impl Display for What<'_> {
+    fn fmt(&self, f: &mut Formatter<'_>) -> Result {
+        match self.0 {
             Refusal::WrongPageLength(n) => write!(f, "a page has {PAGE_LENGTH} bytes, and {n} were lent"),
             Refusal::WrongBufferLength { buffer, length } => {
                 write!(f, "the buffer `{buffer}` takes {} bytes, and {length} were lent", buffer.length())
@@ -61,6 +63,13 @@ impl Refusal {
             }
             Refusal::Unknown { what, number } => write!(f, "the library gave {what} number {number}, which this crate does not know"),
         }
+    }
+}
+
+impl Refusal {
+    /// What was wrong, in words and without advice, for a program that has its own.
+    pub fn what(&self) -> String {
+        What(self).to_string()
     }
 
     /// What may help, behind a colon.
