@@ -46,7 +46,7 @@ class Files(ProgramTest):
         program = shutil.copy(PROGRAM, self.folder / "program")
         user = {"user": NOBODY} if os.geteuid() == 0 else {}
         done = subprocess.run([program, "survey", path], capture_output=True, text=True, cwd="/", **user)
-        message = f"lumeviqo: {path}: Permission denied: ask for the right to it, or take a copy that you may read\n"
+        message = f"lumeviqo: {path}: Permission denied: ask for the right to read it\n"
         self.assertEqual((done.returncode, done.stderr, done.stdout), (2, message, ""))
 
     def test_a_start_behind_the_end(self):
@@ -83,7 +83,7 @@ class Usage(ProgramTest):
         self.wrong("survey", path, "--threads", 0, says="a number from 1 to 1024 is wanted")
         self.wrong("survey", path, "--start", "4k", says="a number of bytes is wanted, in decimal or as 0x and hexadecimal digits")
         self.wrong("survey", path, "--pages", "5..5", says="pages are wanted as A..B with A below B: 16..32 is 16 to 31")
-        self.wrong("page", path, "one", says="invalid digit")
+        self.wrong("page", path, "one", says="a page's number is wanted")
 
     def test_unknown_words(self):
         path = self.file("whole.db", whole_outcomes())

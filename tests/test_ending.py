@@ -55,9 +55,10 @@ def first_line(path):
 
 
 def is_in(pid, calls, path):
-    """Whether the program's first thread is just in one of these calls on this file."""
-    call = first_line(f"/proc/{pid}/syscall").split()
-    return call and call[0] in calls and os.path.realpath(f"/proc/{pid}/fd/{int(call[1], 16)}") == os.path.realpath(path)
+    """Whether a thread of the program is just in one of these calls on this file."""
+    now = [first_line(thread / "syscall").split() for thread in Path(f"/proc/{pid}/task").iterdir()]
+    files = [call[1] for call in now if call and call[0] in calls]
+    return any(os.path.realpath(f"/proc/{pid}/fd/{int(file, 16)}") == os.path.realpath(path) for file in files)
 
 
 def held(calls, path, *words):
@@ -82,6 +83,16 @@ class Interrupted(ProgramTest):
         self.assertEqual((process.returncode, err.decode().splitlines()[-1]), (130, "lumeviqo: interrupted"))
         self.assertIn(b'"interrupted":true', out)
         self.assertEqual(self.left(), ["holes.db"])
+
+
+    def test_what_was_ignored_stays_ignored(self):
+        """As under nohup."""
+        path = self.file("every.db", every_outcome())
+        process = start(PROGRAM, "survey", path, "--threads", 1, preexec_fn=lambda: signal.signal(signal.SIGHUP, signal.SIG_IGN))
+        wait_until(lambda: process.poll() is not None or watches_for_interrupts(process.pid))
+        process.send_signal(signal.SIGHUP)
+        out, _ = process.communicate(timeout=LONGEST)
+        self.assertEqual((process.returncode, out), (1, run("survey", path).out))
 
 
 class MendEnds(ProgramTest):

@@ -71,7 +71,7 @@ class Pages(ProgramTest):
 
     def test_an_unallocated_page_has_no_fields(self):
         _, told = self.told(9)
-        self.assertEqual(set(told), {"outcome"})
+        self.assertEqual(set(told), {"outcome", "or unread"})
 
     def test_a_refusal_says_why_and_what_may_help(self):
         for number, answer, help_words in ((4, 5, "--allow keystream"), (5, 6, "--allow keystream"), (6, 7, "--allow keystream"),
@@ -86,7 +86,7 @@ class Pages(ProgramTest):
             with self.subTest(page=number):
                 ran, told = self.told(number)
                 self.assertEqual(ran.status, 0)
-                self.assertTrue(told["rows"].startswith("not listed: "))
+                self.assertRegex(told["rows"], r"^not listed, answer \d+: ")
                 self.assertIn("--allow directory", told["may help"])
 
     def test_the_command_that_may_help_can_be_typed_as_it_stands(self):
@@ -108,6 +108,37 @@ class Pages(ProgramTest):
                 self.assertEqual(ran.status, 1)
                 self.assertNotIn("keystream", ran.text.lower())
                 self.assertIn("lumeviqo mend", told["may help"])
+
+    def test_zeros_in_the_place_of_sectors_mislead_the_choice(self):
+        """Why nothing advises it: the two leniencies together take a bv that is none."""
+        page = made.Maker(23).no_vote(1, 0x77)
+        data = lost(made.joined([made.superblock(2), page]), {1: [2, 5]})
+        self.path = self.file("lost.img", data)
+        _, told = self.told(1, "--allow", "integrity,keystream")
+        self.assertNotEqual(told["bv"].split(",")[0], "77")
+
+    def test_integrity_is_not_needed_where_the_crc_is_good(self):
+        _, told = self.told(5, "--allow", "integrity")
+        self.assertEqual(told["may help"], f"`lumeviqo page {self.path} 5`: its CRC is good, so it needs no --allow integrity")
+
+    def test_a_superblock_that_is_unread(self):
+        data = lost(made.joined(whole_outcomes()), {0: [0]})
+        self.path = self.file("lost.img", data)
+        ran, told = self.told(0, "--map", self.map("lost.map", len(data), {0: [0]}))
+        self.assertEqual((ran.status, told["superblock"]), (1, "its fields lie in sector 0, which is unread"))
+        self.assertNotIn("magic", told)
+
+    def test_an_unread_sector_of_a_page_whose_crc_is_good(self):
+        self.path = self.file("whole.db", whole_outcomes())
+        map_path = self.map("whole.map", len(made.joined(whole_outcomes())), {4: [2]})
+        ran, told = self.told(4, "--map", map_path)
+        self.assertEqual((ran.status, told["unread"]), (0, "sector 2, by the map; but the CRC is good, so it is what stands there"))
+
+    def test_commands_can_be_typed_with_any_name(self):
+        self.path = self.file("it's old.db", every_outcome())
+        _, told = self.told(8)
+        name = str(self.path).replace("'", "'\\''")
+        self.assertEqual(told["may help"], f"`lumeviqo page '{name}' 8 --allow integrity` reads it all the same")
 
     def test_a_page_cut_short(self):
         _, told = self.told(320)

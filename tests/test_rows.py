@@ -114,5 +114,17 @@ class Unread(ProgramTest):
                 self.assertEqual([row["unread"] == "true" for row in run("rows", path, "--map", map_path, "--csv").csv()], marks)
 
 
+class Notes(ProgramTest):
+    def test_are_those_of_the_survey_and_where_rows_may_be_missing(self):
+        path = self.file("every.db", every_outcome())
+        surveyed, ran = run("survey", path).err, run("rows", path).err
+        self.assertTrue(ran.startswith(surveyed))
+        self.assertIn(f"not read, so rows may be missing: `lumeviqo survey {path}` says why", ran)
+
+    def test_zeros_without_a_map(self):
+        ran = run("rows", self.file("zero.db", bytes(4 * made.PAGE)))
+        self.assertIn("note: 4 pages of zeros, taken as unallocated; a page that could not be read is zeros too", ran.err)
+
+
 if __name__ == "__main__":
     unittest.main()

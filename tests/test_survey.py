@@ -77,13 +77,23 @@ class Counts(ProgramTest):
         pages = [make.verified(number, 9, kind=kind) for number, kind in enumerate("eEiI@`z", 1)]
         lines = run("survey", self.file("types.db", [made.superblock(8), *pages]), "--csv").csv()
         self.assertEqual([line["type"] for line in lines[1:]],
-                         ["extent, lower case", "extent", "index, lower case", "index", "bootstrap", "other 60", "other 7a, lower case"])
+                         ["extent (lower case)", "extent", "index (lower case)", "index", "bootstrap", "other 60", "other 7a (lower case)"])
 
     def test_the_stored_row_count_is_shown(self):
         lines = run("survey", self.path, "--csv").csv()
         for line, page in zip(lines, self.pages):
             if page.outcome in ("verified", "calibrated", "corroborated"):
                 self.assertEqual(int(line["trailer_rows"]), page.row_count)
+
+
+class Warnings(ProgramTest):
+    def test_pages_that_were_taken_in_spite_of_something_are_counted(self):
+        pages = whole_outcomes()
+        broken = bytearray(pages[4].stored)
+        broken[100] ^= 1
+        path = self.file("bad.db", made.joined(pages[:4]) + bytes(broken) + made.joined(pages[5:]))
+        ran = run("survey", path, "--allow", "integrity")
+        self.assertIn("warnings     1 page read with warnings, which `page` and --csv show", ran.lines)
 
 
 class Status(ProgramTest):

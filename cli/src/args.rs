@@ -234,17 +234,18 @@ impl Common {
         Options { leniency, min_trailer_count: self.min_count, search_limit: self.limit }
     }
 
-    /// A command on the same file, to be typed.
-    pub fn command(&self, name: &str, file: &Path) -> String {
+    /// A command on the same file, to be typed; `page` is the number behind the file's name, or nothing.
+    pub fn command(&self, name: &str, file: &Path, page: Option<u64>) -> String {
+        let page = page.map_or(String::new(), |page| format!(" {page}"));
         let map = self.map.as_deref().map_or(String::new(), |map| format!(" --map {}", quoted(map)));
         let start = if self.start > 0 { format!(" --start {}", self.start) } else { String::new() };
-        format!("lumeviqo {name} {}{map}{start}", quoted(file))
+        format!("lumeviqo {name} {}{page}{map}{start}", quoted(file))
     }
 
     /// The command that mends it, but for the names of the copy and the new file.
     pub fn mending(&self, file: &Path) -> String {
         let copy_map = if self.map.is_some() { " --copy-map MAP2" } else { "" };
-        format!("{} --copy SECOND{copy_map} -o OUT", self.command("mend", file))
+        format!("{} --copy SECOND{copy_map} -o OUT", self.command("mend", file, None))
     }
 
     pub fn allows(&self, what: Allowed) -> bool {

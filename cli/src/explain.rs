@@ -194,6 +194,6 @@ impl Explanation<'_> {
 
     /// The same question.
     fn again(&self) -> String {
-        format!("{} {}", self.common.command("page", self.source.path()), self.page.number)
+        self.common.command("page", self.source.path(), Some(self.page.number))
     }
 }

@@ -62,7 +62,7 @@ pub fn run(asked: &Rows, common: &Common) -> Result<u8> {
 fn own_notes(tally: &Tally, file: &Path, common: &Common) -> Vec<String> {
     let mut notes = Vec::new();
     if tally.refused() > 0 {
-        let (pages, command) = (counted(tally.refused(), "page"), common.command("survey", file));
+        let (pages, command) = (counted(tally.refused(), "page"), common.command("survey", file, None));
         notes.push(format!("{pages} not read, so rows may be missing: `{command}` says why"));
     }
     let directories: u64 = tally.row_answers.values().sum();
