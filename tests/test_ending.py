@@ -62,7 +62,7 @@ def is_in(pid, calls, path):
 
 
 def held(calls, path, *words):
-    """Starts the program under strace, which holds it for a second in the first of these calls on this file; both, once it is there."""
+    """Starts the program under strace, which holds each thread for a second in its first of these calls on this file; both, once one is there."""
     names = {FSYNC: "fsync,fdatasync", PREAD: "pread64"}[calls]
     tracer = start("strace", "-f", "-qq", "-o", "/dev/null", "-P", path, "-e", f"trace={names}", "-e",
                    f"inject={names}:delay_enter=1000000:when=1", PROGRAM, *words)
@@ -115,7 +115,7 @@ class MendEnds(ProgramTest):
 
     def test_interrupted(self):
         status, err = self.while_it_syncs(lambda child: os.kill(child, signal.SIGINT))
-        self.assertEqual((status, err, self.left()), (130, "lumeviqo: interrupted\n", self.given))
+        self.assertEqual((status, err, self.left()), (130, "lumeviqo: interrupted: no file was written\n", self.given))
 
     def test_a_page_that_was_changed_behind_its_back(self):
         part = self.folder / "out.db.part"
@@ -133,8 +133,40 @@ class MendEnds(ProgramTest):
     def test_an_out_that_came_to_be_meanwhile(self):
         out = self.folder / "out.db"
         status, err = self.while_it_syncs(lambda _: out.write_text("mine"))
-        message = f"lumeviqo: {out}: it came to be meanwhile, and nothing is written over: choose another name\n"
+        message = f"lumeviqo: {out}: it came to be meanwhile, and nothing is written over: what was made is left as {out}.part: rename that\n"
         self.assertEqual((status, err, out.read_text()), (2, message, "mine"))
+        self.assertEqual(self.left(), sorted(self.given + ["out.db", "out.db.part"]))
+        self.assertTrue(Path(f"{out}.part").read_bytes() == self.data)
+
+    def test_an_out_that_came_to_be_meanwhile_leaves_its_map_too(self):
+        out, new = self.folder / "out.db", self.folder / "new.map"
+        self.words += ["--new-map", new]
+        status, err = self.while_it_syncs(lambda _: out.write_text("mine"))
+        self.assertEqual((status, err.endswith(f"{out}.part: rename that; its map is left as {new}.part\n")), (2, True), err)
+        self.assertEqual(self.left(), sorted(self.given + ["out.db", "out.db.part", "new.map.part"]))
+
+    def test_a_new_map_that_came_to_be_meanwhile(self):
+        """The mended file is made, so the status is not 2."""
+        new = self.folder / "new.map"
+        self.words += ["--new-map", new]
+        status, err = self.while_it_syncs(lambda _: new.write_text("mine"))
+        message = f"lumeviqo: {new}: it came to be meanwhile, and nothing is written over: what was made is left as {new}.part: rename that\n"
+        self.assertEqual((status, err, new.read_text()), (1, message, "mine"))
+        self.assertEqual(self.left(), sorted(self.given + ["out.db", "new.map", "new.map.part"]))
+        self.assertTrue((self.folder / "out.db").read_bytes() == self.data)
+
+    def test_a_name_that_can_not_be_given(self):
+        """A file system that neither renames without replacing nor gives a file two names."""
+        out = self.folder / "out.db"
+        ran = subprocess.run(["strace", "-f", "-qq", "-o", "/dev/null", "-e", "inject=renameat2:error=EINVAL", "-e", "inject=link,linkat:error=EPERM",
+                              PROGRAM, *map(str, self.words)], capture_output=True, timeout=LONGEST)
+        message = f"lumeviqo: {out}: this name can't be given (Operation not permitted): what was made is left as {out}.part: rename that\n"
+        self.assertEqual((ran.returncode, ran.stderr.decode()), (2, message))
+        self.assertEqual(self.left(), sorted(self.given + ["out.db.part"]))
+
+    def test_a_file_system_that_replaces_when_it_renames(self):
+        subprocess.run(["strace", "-f", "-qq", "-o", "/dev/null", "-e", "inject=renameat2:error=EINVAL", PROGRAM, *map(str, self.words)],
+                       capture_output=True, check=True, timeout=LONGEST)
         self.assertEqual(self.left(), sorted(self.given + ["out.db"]))
 
     def test_a_full_disc(self):
@@ -157,10 +189,20 @@ class MendEnds(ProgramTest):
         self.assertEqual((ran.status, ran.err, self.left()), (2, "", self.given))
 
     def test_a_full_standard_output(self):
-        with open("/dev/full", "wb") as full:
-            ran = run(*self.words, stdout=full)
-        self.assertEqual((ran.status, self.left()), (2, self.given))
-        self.assertEqual(ran.err, "lumeviqo: standard output: No space left on device: make room, or write to another disc\n")
+        """At the first line of a page, and, where no page has one, at the last line of all."""
+        whole = ["mend", self.folder / "second.img", "--copy", self.folder / "first.img", "-o", self.folder / "out.db"]
+        for words in (self.words, self.words + ["--new-map", self.folder / "new.map"], whole):
+            with open("/dev/full", "wb") as full:
+                ran = run(*words, stdout=full)
+            self.assertEqual((ran.status, self.left()), (2, self.given))
+            self.assertEqual(ran.err, "lumeviqo: standard output: No space left on device: make room, or write to another disc\n")
+
+    def test_each_block_is_read_afresh_once(self):
+        trace, part = self.folder / "trace", self.folder / "out.db.part"
+        subprocess.run(["strace", "-f", "-qq", "-o", trace, "-P", part, "-e", "trace=pread64", PROGRAM, *map(str, self.words)],
+                       capture_output=True, check=True, timeout=LONGEST)
+        reads = re.findall(r"pread64\(\d+, .*, (\d+), (\d+)\)", trace.read_text())
+        self.assertEqual(reads, [(str(made.BLOCK * made.PAGE), "0")])
 
 
 class Shrinking(ProgramTest):
@@ -231,7 +273,9 @@ class Opened(ProgramTest):
         writes = [line for line in lines if re.search("O_WRONLY|O_RDWR|O_CREAT", line)]
         self.assertEqual(len(writes), 1, writes)
         self.assertRegex(writes[0], rf'"{out}\.part", O_RDWR\|O_CREAT\|O_EXCL')
-        self.assertRegex("\n".join(lines), rf'renameat2\(AT_FDCWD, "{out}\.part", AT_FDCWD, "{out}", RENAME_NOREPLACE\) = 0')
+        # Where threads end meanwhile strace writes what the call answers on a line of its own.
+        self.assertRegex("\n".join(lines), rf'renameat2\(AT_FDCWD, "{out}\.part", AT_FDCWD, "{out}", RENAME_NOREPLACE(\) = 0| <unfinished)')
+        self.assertEqual(self.left(), ["first.img", "first.map", "out.db", "second.img"])
 
 
 if __name__ == "__main__":

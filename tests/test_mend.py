@@ -37,6 +37,12 @@ class MendTest(ProgramTest):
         self.assertTrue(self.out.read_bytes() == data)
         self.assertFalse([name for name in self.left() if name.endswith(".part")])
 
+    def last_words(self, ran):
+        """What the last line says behind the new file's name."""
+        name, words = ran.lines[-1].split(": ", 1)
+        self.assertEqual(name, str(self.out))
+        return words
+
     def pages_told(self, ran):
         """The numbers of the pages that lines are about, in their order."""
         return [int(line.split()[1].rstrip(":,")) for line in ran.lines if line.startswith("page ")]
@@ -58,9 +64,21 @@ class WithMaps(MendTest):
         ran = self.mend(*self.image("first", BAD_1), self.image("second", bad_2), self.image("third", BAD_3))
         self.gives(ran, self.data)
 
-    def test_a_copy_without_a_map_is_taken_to_be_whole(self):
-        ran = self.mend(*self.image("first", BAD_1), (self.file("second.img", self.data), None))
-        self.gives(ran, self.data)
+    def test_a_copy_without_a_map_is_taken_to_be_whole_where_it_has_data(self):
+        second = self.file("second.img", self.data)
+        ran = self.mend(*self.image("first", BAD_1), (second, None))
+        self.gives(ran, self.data, 1)
+        self.assertEqual(ran.lines[0], f"page 3: no copy has sector 4 ({second} has zeros there, and no map): unread")
+        self.assertEqual(self.last_words(ran), "6 pages came back, 16 sectors from copies, each read afresh from the new file; 1 page not read")
+
+    def test_zeros_of_a_copy_without_a_map_may_be_unread_there_too(self):
+        """As an unallocated page they would come back, and its rows would be lost without a word."""
+        both = {8: [3, 4], 12: range(8)}
+        second = self.file("second.img", lost(self.data, both))
+        ran = self.mend(*self.image("first", both | {4: [2]}), (second, None))
+        self.gives(ran, lost(self.data, both), 1)
+        zeros = f"({second} has zeros there, and no map): unread"
+        self.assertEqual(ran.lines[1:3], [f"page 8: no copy has sectors 3 4 {zeros}", f"page 12: no copy has sectors 0 1 2 3 4 5 6 7 {zeros}"])
 
     def test_a_copy_of_the_second_map_alone(self):
         """The map behind the second copy is the second copy's."""
@@ -104,17 +122,68 @@ class WithMaps(MendTest):
         self.gives(ran, front + self.data)
 
     def test_pages_behind_the_end_of_the_first_image(self):
-        """ddrescue's image ends with the last sector that it read."""
+        """ddrescue's image ends with the last sector that it read. The last page is unallocated."""
         cut = 29 * made.PAGE + 3 * made.SECTOR
         first = self.file("first.img", self.data[:cut]), self.map("first.map", len(self.data), {29: range(3, 8), 30: range(8), 31: range(8)})
-        ran = self.mend(*first, (self.file("second.img", self.data), None))
+        self.gives(self.mend(*first, self.image("second", {})), self.data)
+
+    def test_the_new_file_ends_with_the_last_page_that_a_copy_gave(self):
+        """Behind the first image's end the map has three pages; zeros that nobody read are none of the new file's."""
+        tail = {29: range(8), 30: range(8), 31: range(8)}
+        first = self.file("first.img", self.data[:29 * made.PAGE]), self.map("first.map", len(self.data), tail)
+        middle = {29: range(8), 31: range(8)}
+        for copy, data in ((self.image("none", tail), self.data[:29 * made.PAGE]),
+                           (self.image("middle", middle), lost(self.data[:31 * made.PAGE], {29: range(8)})),
+                           ((self.file("whole.img", self.data), None), self.data[:31 * made.PAGE])):  # the last page of it is zeros, and has no map
+            self.gives(self.mend(*first, copy), data, 1)
+            self.out.unlink()
+
+    def short(self):
+        """An image of ten pages without superblock, and its map: it alone knows of the other pages, which are more than the image has."""
+        bad = {0: [0]} | {page: range(8) for page in range(10, 32)}
+        return self.file("first.img", lost(self.data, bad)[:10 * made.PAGE]), self.map("first.map", len(self.data), bad)
+
+    def test_pages_that_the_map_and_a_copy_alone_know(self):
+        ran = self.mend(*self.short(), self.image("second", {}))
         self.gives(ran, self.data)
+        self.assertTrue(self.last_words(ran).endswith("; all pages asked for are read"))
+
+    def test_pages_behind_the_last_of_the_copies(self):
+        second, map_path = self.image("second", {})
+        os.truncate(second, 20 * made.PAGE)
+        ran = self.mend(*self.short(), (second, map_path))
+        self.gives(ran, self.data[:20 * made.PAGE], 1)
+        self.assertTrue(self.last_words(ran).endswith("; pages may be missing behind the last one"))
+        self.assertIn("note: the map has 49,152 unread bytes behind the last page of the copies: pages may be missing there", ran.err)
+
+    def test_a_copy_that_ends_inside_a_page(self):
+        end = 20 * made.PAGE + 3 * made.SECTOR
+        ran = self.mend(*self.short(), (self.file("second.img", self.data[:end]), None), words=["--pages", "20.."])
+        self.assertEqual(ran.lines[0], f"page 20: sectors 0 1 2 from {self.folder}/second.img, no copy has sectors 3 4 5 6 7: unread")
+        self.assertEqual(self.out.read_bytes()[10 * made.PAGE:], bytes(10 * made.PAGE) + self.data[20 * made.PAGE:end].ljust(made.PAGE, b"\0"))
 
     def test_a_copy_that_is_shorter(self):
         first = self.image("first", {4: [2], 28: [1]})
         ran = self.mend(*first, (self.file("second.img", self.data[:10 * made.PAGE]), None))
         self.gives(ran, lost(self.data, {28: [1]}), 1)
 
+    def test_copies_that_disagree_in_unread_sectors(self):
+        """The first copy is of another day in one sector, the second in another: one combination has the page's CRC."""
+        old = [self.file(f"{sector}.img", flipped(self.data, 4, sector)) for sector in (2, 5)]
+        ran = self.mend(*self.image("first", {4: [2, 5]}), *((path, None) for path in old))
+        self.gives(ran, self.data)
+        rows = self.pages[4].row_count
+        self.assertEqual(ran.lines[0], f"page 4: sector 5 from {old[0]}, sector 2 from {old[1]}, which alone gives a good CRC: verified, {rows} rows")
+
+    def test_a_damaged_page_that_the_map_has_as_read(self):
+        image, map_path = self.image("first", {4: [2]})
+        spoiled = self.file("first.img", flipped(flipped(image.read_bytes(), 8, 3), 9, 1))
+        second = self.file("second.img", flipped(self.data, 9, 1))
+        ran = self.mend(spoiled, map_path, (second, None))
+        self.gives(ran, flipped(self.data, 9, 1), 1)
+        rows = self.pages[8].row_count
+        self.assertEqual(ran.lines[1:3], [f"page 8: sector 3 from {second}, which alone gives a good CRC: verified, {rows} rows",
+                                          "page 9: its CRC is bad, and no copy differs from it: damaged (answer 3)"])
 
     def test_a_copy_whose_sector_is_another_ones_leaves_the_page_damaged(self):
         """A second copy of another day: the sector is in the new file, and the page's CRC says what it is worth."""
@@ -133,6 +202,29 @@ class WithMaps(MendTest):
             "page 9: no copy has sector 1: unread"])
         self.assertEqual((len(ran.lines), ran.status), (4, 1))
         self.assertTrue(ran.lines[3].startswith(f"{self.out}: 2 pages came back, 3 sectors from copies"))
+
+    def test_a_page_that_was_read_before_does_not_come_back(self):
+        """Its CRC is good: by the copy the map knows that the sector is read, too."""
+        first = self.file("first.img", lost(self.data, {8: [1]})), self.map("first.map", len(self.data), {4: [2], 8: [1]})
+        ran = self.mend(*first, (self.file("second.img", self.data), None))
+        self.gives(ran, self.data)
+        words = "1 page came back, 2 sectors from copies, each read afresh from the new file; all pages asked for are read"
+        self.assertEqual(self.last_words(ran), words)
+
+    def test_nor_does_one_that_was_read_in_spite_of_its_crc(self):
+        first, second = self.file("first.img", flipped(self.data, 8, 3)), self.file("second.img", self.data)
+        for allowed, back in (([], "1 page"), (["--allow", "integrity"], "0 pages")):
+            ran = self.mend(first, None, (second, None), words=allowed)
+            self.gives(ran, self.data)
+            self.assertTrue(self.last_words(ran).startswith(f"{back} came back, 1 sector from copies"), ran.text)
+            self.out.unlink()
+
+    def test_where_no_sector_came(self):
+        ran = self.mend(*self.image("first", {4: [2]}), self.image("second", {4: [2]}))
+        self.assertEqual(ran.lines, ["page 4: no copy has sector 2: unread", f"{self.out}: nothing was changed; 1 page not read"])
+        self.out.unlink()
+        ran = self.mend(*self.image("whole", {}), self.image("second", {}))
+        self.assertEqual((ran.status, ran.lines), (0, [f"{self.out}: nothing was changed; all pages asked for are read"]))
 
     def test_an_undecided_page_is_not_passed_over(self):
         """Nothing is done with it, and the status still says that not all pages are read."""
@@ -212,6 +304,12 @@ class NewMaps(MendTest):
         self.refused(ran, f"{old}: {EXISTS}")
         self.assertEqual((old.read_text(), self.out.exists(), (self.folder / "out.db.part").exists()), ("mine", False, False))
 
+    def test_the_mended_file_is_no_map(self):
+        for name in (self.out, f"{self.folder}/../{self.folder.name}/./out.db"):
+            ran = self.mend(*self.image("first", BAD_1), self.image("second", BAD_2), words=["--new-map", name])
+            self.refused(ran, f"{name}: this is the mended file's name too: give --new-map another")
+        self.assertEqual(self.left(), ["first.img", "first.map", "second.img", "second.map"])
+
 
 class WithoutMaps(MendTest):
     """Only pages with a bad CRC are tried, with the sectors that differ between the copies."""
@@ -251,7 +349,6 @@ class WithoutMaps(MendTest):
         self.gives(ran, first, 1)
         self.assertEqual(self.pages_told(ran), [4])
 
-
     def test_a_third_copy_gives_further_combinations(self):
         copies = [(self.file(f"{n}.img", lost(self.data, {4: bad})), None) for n, bad in enumerate(([2, 6], [1, 2], [1, 6]))]
         ran = self.mend(copies[0][0], None, *copies[1:])
@@ -264,10 +361,22 @@ class WithoutMaps(MendTest):
         self.gives(ran, first)
         self.assertIn("note: 1 page of zeros where a copy has data: with --map", ran.err)
 
+    def test_a_copy_that_is_longer_is_noted(self):
+        first, second = self.file("first.img", self.data[:30 * made.PAGE]), self.file("second.img", self.data)
+        ran = self.mend(first, None, (second, None))
+        self.gives(ran, self.data[:30 * made.PAGE])
+        self.assertEqual(ran.err, f"note: {second} goes on for 8,192 bytes behind the end of {first}: {first} may have been cut short\n")
+
 
 def without(data, sectors):
     """As `lost`, for pairs of page and sector."""
     return lost(data, {page: [s for p, s in sectors if p == page] for page, _ in sectors})
+
+
+def flipped(data, page, sector):
+    """The same with another byte in this sector."""
+    at = page * made.PAGE + sector * made.SECTOR + 100
+    return data[:at] + bytes([data[at] ^ 1]) + data[at + 1:]
 
 
 def spoiled(page, sector):
@@ -335,7 +444,7 @@ class NotWrittenOver(MendTest):
     def test_a_folder_that_is_not_there(self):
         self.out = self.folder / "none" / "out.db"
         ran = self.mend(*self.image("first", BAD_1), self.image("second", BAD_2))
-        self.refused(ran, f"{self.out}.part: No such file or directory: look whether the name is right")
+        self.refused(ran, f"{self.out}.part: No such file or directory: look whether its folder is there")
 
 
 if __name__ == "__main__":

@@ -132,7 +132,7 @@ pub struct Mend {
     /// A second copy of it; give the option again for a third, which fills what is left
     #[arg(long, value_name = "SECOND", required = true)]
     pub copy: Vec<PathBuf>,
-    /// The ddrescue map of the copy named before it; a copy without one is taken to be whole
+    /// The ddrescue map of the copy named before it; of a copy without one, zeros are taken only where the CRC is good with them
     #[arg(long, value_name = "M2")]
     pub copy_map: Vec<PathBuf>,
     /// The mended file; it must not exist yet

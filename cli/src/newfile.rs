@@ -5,7 +5,8 @@ use std::io;
 use std::os::unix::ffi::OsStrExt;
 use std::path::{Path, PathBuf};
 
-use crate::failure::{Failure, Result};
+use crate::failure::{Failure, Result, reason};
+use crate::words::name_of;
 
 pub struct NewFile {
     name: PathBuf,
@@ -18,15 +19,16 @@ pub struct NewFile {
 impl NewFile {
     pub fn create(name: &Path) -> Result<NewFile> {
         if fs::symlink_metadata(name).is_ok() {
-            return Err(exists(name, "it is there already, and nothing is written over: choose another name, or remove it first"));
+            return Err(Failure::about(name, "it is there already, and nothing is written over: choose another name, or remove it first"));
         }
         let part = part_of(name);
         match OpenOptions::new().read(true).write(true).create_new(true).open(&part) {
             Ok(file) => Ok(NewFile { name: name.into(), part, file, kept: false }),
-            Err(e) if e.kind() == io::ErrorKind::AlreadyExists => {
-                Err(exists(&part, "it is there already, from a run that was cut off or still goes on: remove it if it is not needed"))
-            }
-            Err(e) => Err(Failure::of(&part, &e)),
+            Err(e) if e.kind() == io::ErrorKind::AlreadyExists => Err(Failure::about(
+                &part,
+                "it is there already, from a run that was cut off or still goes on: remove it if it is not needed",
+            )),
+            Err(e) => Err(Failure::of_writing(&part, &e)),
         }
     }
 
@@ -39,22 +41,20 @@ impl NewFile {
     }
 
     pub fn sync(&self) -> Result<()> {
-        self.file.sync_all().map_err(|e| Failure::of(&self.part, &e))
+        self.file.sync_all().map_err(|e| Failure::of_writing(&self.part, &e))
     }
 
-    /// Gives the file its name, if nobody else has taken it meanwhile.
+    /// Gives the file its name, if nobody else has taken it meanwhile; if it can't, the file stays as NAME.part, since it is whole.
     pub fn keep(mut self) -> Result<()> {
         self.sync()?;
-        match rename_new(&self.part, &self.name) {
-            Ok(()) => {
-                self.kept = true;
-                Ok(())
-            }
-            Err(e) if e.kind() == io::ErrorKind::AlreadyExists => {
-                Err(exists(&self.name, "it came to be meanwhile, and nothing is written over: choose another name"))
-            }
-            Err(e) => Err(Failure::of(&self.name, &e)),
-        }
+        self.kept = true;
+        rename_new(&self.part, &self.name).map_err(|e| {
+            let why = match e.kind() {
+                io::ErrorKind::AlreadyExists => "it came to be meanwhile, and nothing is written over".into(),
+                _ => format!("this name can't be given ({})", reason(&e)),
+            };
+            Failure::about(&self.name, &format!("{why}: what was made is left as {}: rename that", name_of(&self.part)))
+        })
     }
 
     /// Leaves it as NAME.part.
@@ -79,11 +79,7 @@ fn part_of(name: &Path) -> PathBuf {
     part.into()
 }
 
-fn exists(path: &Path, words: &str) -> Failure {
-    Failure::NotDone(format!("{}: {words}", path.display()))
-}
-
-/// The kernel's own rename that replaces nothing; where a file system does not have it, a second name and then no first.
+/// The kernel's own rename that replaces nothing; where a file system does not have it, a second name and then, if that can be, no first.
 fn rename_new(from: &Path, to: &Path) -> io::Result<()> {
     let (old, new) = (CString::new(from.as_os_str().as_bytes())?, CString::new(to.as_os_str().as_bytes())?);
     // SAFETY: both are paths that end in NUL and live through the call.
@@ -93,7 +89,7 @@ fn rename_new(from: &Path, to: &Path) -> io::Result<()> {
     }
     let error = io::Error::last_os_error();
     match error.raw_os_error() {
-        Some(libc::EINVAL | libc::ENOSYS) => fs::hard_link(from, to).and_then(|()| fs::remove_file(from)),
+        Some(libc::EINVAL | libc::ENOSYS) => fs::hard_link(from, to).map(|()| drop(fs::remove_file(from))),
         _ => Err(error),
     }
 }

@@ -8,11 +8,15 @@ use crate::source::Source;
 use crate::tally::Tally;
 use crate::words::{counted, grouped};
 
-/// The notes on what was read of a file.
+/// All notes on what was read of a file.
 pub fn notes(source: &Source, tally: &Tally, common: &Common) -> Result<Vec<String>> {
-    let notes =
-        [on_magic(source)?, on_map(source), on_zeros(source, tally), on_cut(tally), on_blocks(tally), on_unread(source, tally, common)];
-    Ok(notes.into_iter().flatten().collect())
+    let rescue = [on_map(source), on_zeros(source, tally), on_unread(source, tally, common)];
+    Ok(rescue.into_iter().flatten().chain(on_places(source, tally)?).collect())
+}
+
+/// The notes on whether its pages are where they were looked for.
+pub fn on_places(source: &Source, tally: &Tally) -> Result<Vec<String>> {
+    Ok([on_magic(source)?, on_cut(tally), on_blocks(tally)].into_iter().flatten().collect())
 }
 
 /// None where sector 0 of page 0 was never read: what stands there says nothing.

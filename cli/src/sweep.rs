@@ -162,6 +162,7 @@ mod tests {
         let cut = |range: Range<u64>| parts(&range, 32).collect::<Vec<_>>();
         assert_eq!(cut(0..64), [0..32, 32..64]);
         assert_eq!(cut(21..70), [21..32, 32..64, 64..70]);
-        assert_eq!((cut(5..6), cut(7..7)), (vec![5..6], vec![]));
+        assert_eq!(cut(5..6), [5..6]);
+        assert!(cut(7..7).is_empty());
     }
 }
