@@ -20,7 +20,7 @@ use crate::patch::{Broken, CopyPage, Patch, has_bad_crc, is_good};
 use crate::progress::Progress;
 use crate::reading::{self, Answer, PageReading, Stored, is_zero, read_block};
 use crate::source::{BLOCK, Source, blocks_of};
-use crate::sweep::{Sweep, interrupted};
+use crate::sweep::{Batch, Sweep, interrupted};
 use crate::tally::Tally;
 use crate::words::{counted, name_of};
 
@@ -185,7 +185,7 @@ impl Mender<'_> {
             progress.add(pages.wanted.end - pages.wanted.start, part.tally.refused());
             Ok((source.place(pages.wanted.start), part))
         };
-        sweep.run(part, |(place, part)| {
+        sweep.run(Batch::Contents, part, |(place, part)| {
             target.put(place, &part.bytes)?;
             part.said.last().inspect(|said| target.reach(source.place(said.page + 1)));
             let lines = || part.lines.iter().try_for_each(|line| out.line(line)).and_then(|()| out.flush());

@@ -47,31 +47,37 @@ struct Scanned {
     lost: bool,
 }
 
-/// Pages of whole blocks: those that are wanted, the first page of the blocks, their bytes, and which of them are all zero.
+/// Pages of whole blocks: those that are wanted, the first page of the blocks, their bytes, and which of them look like zeros.
 pub struct Part<'a> {
     pub wanted: Range<u64>,
     pub first: u64,
     pub bytes: &'a [u8],
-    pub zero: &'a [bool],
+    pub zeros: &'a [bool],
 }
 
 impl<'a> Part<'a> {
     /// Each block by itself, with those of its pages that are wanted.
     pub fn blocks(&self) -> impl Iterator<Item = Part<'a>> {
         let (wanted, first) = (self.wanted.clone(), self.first);
-        let blocks = self.bytes.chunks(BLOCK as usize * PAGE).zip(self.zero.chunks(BLOCK as usize));
-        blocks.enumerate().map(move |(n, (bytes, zero))| {
+        let blocks = self.bytes.chunks(BLOCK as usize * PAGE).zip(self.zeros.chunks(BLOCK as usize));
+        blocks.enumerate().map(move |(n, (bytes, zeros))| {
             let first = first + n as u64 * BLOCK;
             let wanted = wanted.start.max(first)..wanted.end.min(first + BLOCK);
-            Part { wanted, first, bytes, zero }
+            Part { wanted, first, bytes, zeros }
         })
     }
 
     pub fn read(&self, source: &Source, options: Options) -> Vec<PageReading> {
         let mut readings = Vec::with_capacity((self.wanted.end - self.wanted.start) as usize);
         for block in self.blocks() {
-            let pages = (block.first..).zip(block.bytes.chunks(PAGE)).zip(block.zero);
-            let stored = pages.map(|((number, bytes), zero)| Stored::known(number, bytes, source.unread_sectors(number), *zero));
+            let pages = (block.first..).zip(block.bytes.chunks(PAGE)).zip(block.zeros);
+            let stored = pages.map(|((number, bytes), zeros)| Stored {
+                number,
+                bytes,
+                unread: source.unread_sectors(number),
+                zeros: *zeros,
+                repair: None,
+            });
             readings.extend(read_block(stored, &block.wanted, options));
         }
         readings
@@ -82,8 +88,8 @@ impl<'a> Part<'a> {
 pub fn read_page(source: &Source, number: u64, options: Options) -> Result<(PageReading, Vec<u8>)> {
     let (mut bytes, wanted) = (Vec::new(), number..number + 1);
     source.read_blocks(&wanted, &mut bytes)?;
-    let zero: Vec<bool> = bytes.chunks(PAGE).map(is_zero).collect();
-    let part = Part { first: blocks_of(&wanted).start, wanted, bytes: &bytes, zero: &zero };
+    let zeros: Vec<bool> = bytes.chunks(PAGE).map(looks_zero).collect();
+    let part = Part { first: blocks_of(&wanted).start, wanted, bytes: &bytes, zeros: &zeros };
     let page = part.read(source, options).remove(0);
     let at = (number % BLOCK) as usize * PAGE;
     let stored = bytes[at..bytes.len().min(at + PAGE)].to_vec();
@@ -95,18 +101,14 @@ pub struct Stored<'a> {
     number: u64,
     bytes: &'a [u8],
     unread: u8,
-    zero: bool,
+    /// It looks like zeros.
+    zeros: bool,
     repair: Option<Repair>,
 }
 
 impl<'a> Stored<'a> {
     pub fn new(number: u64, bytes: &'a [u8], unread: u8) -> Self {
-        Stored::known(number, bytes, unread, is_zero(bytes))
-    }
-
-    /// One that is known to be all zero or not. Of zeros always the same ones are asked about, which the processor has at hand.
-    fn known(number: u64, bytes: &'a [u8], unread: u8, zero: bool) -> Self {
-        Stored { number, bytes: if zero { &ZEROS[..bytes.len()] } else { bytes }, unread, zero, repair: None }
+        Stored { number, bytes, unread, zeros: looks_zero(bytes), repair: None }
     }
 
     /// The same with the summary that was kept while its sectors were replaced.
@@ -134,12 +136,15 @@ fn others(anchors: &[(u64, u8)], number: u64) -> Vec<u8> {
 
 /// `plain` is lent to whoever needs room for a page.
 fn look(stored: Stored, options: Options, plain: &mut [u8; PAGE]) -> Look {
-    let Stored { number, bytes: page, unread, zero, .. } = stored;
+    let Stored { number, bytes: page, unread, zeros, .. } = stored;
     if page.len() < PAGE {
         return Look::Done(Outcome::CutShort, Answer::CutShort(page.len()));
     }
-    if zero {
-        return if unread != 0 { Look::Done(Outcome::Unread, Answer::Unread) } else { unallocated(number, page, options, plain) };
+    if zeros && unread == 0 && is_unallocated(number, page, options, plain) {
+        return Look::Done(Outcome::Unallocated, Answer::Unallocated);
+    }
+    if zeros && unread != 0 && is_zero(page) {
+        return Look::Done(Outcome::Unread, Answer::Unread);
     }
     let sound = lumeviqo::integrity(number, page);
     let lost = unread != 0 && matches!(sound, Err(Refusal::BadCrc { .. }));
@@ -164,11 +169,9 @@ fn superblock(sound: std::result::Result<(), Refusal>, lost: bool) -> Look {
     }
 }
 
-fn unallocated(number: u64, page: &[u8], options: Options, plain: &mut [u8; PAGE]) -> Look {
-    match lumeviqo::decode(number, page, &[], options, plain) {
-        Ok(_) => Look::Done(Outcome::Unallocated, Answer::Unallocated),
-        Err(refusal) => Look::Done(Outcome::Undecided, Answer::Refused(refusal)),
-    }
+/// It is the library that says so, which looks at every byte.
+fn is_unallocated(number: u64, page: &[u8], options: Options, plain: &mut [u8; PAGE]) -> bool {
+    lumeviqo::decode(number, page, &[], options, plain).is_ok_and(|decoding| decoding.source == BvSource::Unallocated)
 }
 
 fn scanned(stored: Stored, sound: bool, lost: bool, options: Options) -> Look {
@@ -250,9 +253,13 @@ fn refused(refusal: &Refusal) -> Outcome {
     }
 }
 
-static ZEROS: [u8; PAGE] = [0; PAGE];
+/// Whether a page is worth the question: pages that were written begin or end otherwise, with few exceptions.
+pub fn looks_zero(page: &[u8]) -> bool {
+    page.len() == PAGE && page[..64] == [0; 64] && page[PAGE - 64..] == [0; 64]
+}
 
 /// By comparison, which the system's library does with the widest numbers that the processor has.
 pub fn is_zero(bytes: &[u8]) -> bool {
+    static ZEROS: [u8; PAGE] = [0; PAGE];
     bytes.chunks(PAGE).all(|page| page == &ZEROS[..page.len()])
 }

@@ -11,7 +11,7 @@ use crate::notes::notes;
 use crate::output::Output;
 use crate::progress::Progress;
 use crate::reading::{Accepted, Answer, PageReading};
-use crate::sweep::Sweep;
+use crate::sweep::{Batch, Sweep};
 use crate::tally::Tally;
 use crate::words::counted;
 
@@ -42,6 +42,7 @@ pub fn run(asked: &Rows, common: &Common) -> Result<u8> {
     let progress = Progress::new(sweep.range.end - sweep.range.start, common.quiet);
     let mut tally = Tally::default();
     sweep.run(
+        Batch::Contents,
         |pages| {
             let readings = pages.read(&sweep.source, sweep.options);
             progress.read(&readings);

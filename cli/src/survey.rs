@@ -14,7 +14,7 @@ use crate::progress::Progress;
 use crate::reading::{Answer, PageReading};
 use crate::sketch::sketch;
 use crate::source::Source;
-use crate::sweep::Sweep;
+use crate::sweep::{Batch, Sweep};
 use crate::tally::{Tally, type_name};
 use crate::words::{counted, grouped, hanging, sectors};
 
@@ -78,6 +78,7 @@ fn go_through<'a>(sweep: &'a Sweep, csv: bool, common: &Common, out: &mut Output
     };
     let progress = Progress::new(sweep.range.end - first, common.quiet);
     let swept = sweep.run(
+        Batch::Counts,
         |pages| {
             let readings = pages.read(source, sweep.options);
             progress.read(&readings);

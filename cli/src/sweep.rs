@@ -11,13 +11,17 @@ use rayon::prelude::*;
 
 use crate::args::{Common, PageRange};
 use crate::failure::{Failure, Result};
-use crate::reading::{Part, is_zero};
+use crate::reading::{Part, looks_zero};
 use crate::source::{BLOCK, Source, blocks_of};
 
-/// Two blocks: long enough to be read at once, short enough that what was read is still at hand when it is decoded.
-const PART: u64 = 2 * BLOCK;
-/// Parts of a batch: waking the threads for it costs little beside it, also where its pages are zeros; and what its pages give fits into memory.
-const BATCH: u64 = 128;
+/// How many blocks are handed on at a time. Waking the threads for a batch must cost little beside it, also where its pages are zeros; but what its
+/// pages give must fit into memory.
+pub enum Batch {
+    /// Of each page little more than a number is kept.
+    Counts = 512,
+    /// Of each page its bytes or rows are kept.
+    Contents = 128,
+}
 
 static INTERRUPTED: AtomicBool = AtomicBool::new(false);
 
@@ -73,7 +77,7 @@ impl Sweep {
 
     /// `work` is done on each part by any thread, `each` on what it gives, in order, by this one. There is one thread more than may decode at a time,
     /// so that one reads meanwhile, and then decodes what it has at hand. Zeros are hardly more work than their reading, and take no turn.
-    pub fn run<T: Send>(&self, work: impl Fn(Part) -> Result<T> + Sync, mut each: impl FnMut(T) -> Result<()>) -> Result<()> {
+    pub fn run<T: Send>(&self, batch: Batch, work: impl Fn(Part) -> Result<T> + Sync, mut each: impl FnMut(T) -> Result<()>) -> Result<()> {
         let pool = pool_of(self.threads + 1)?;
         let (turns, rooms) = (Turns::new(self.threads), Rooms::default());
         let part = |wanted: Range<u64>| {
@@ -82,13 +86,13 @@ impl Sweep {
             }
             rooms.lend(|bytes| {
                 let hole = self.source.read_blocks(&wanted, bytes)?;
-                let zero: Vec<bool> = bytes.chunks(PAGE).map(|page| hole || is_zero(page)).collect();
-                let part = Part { first: blocks_of(&wanted).start, wanted, bytes, zero: &zero };
-                if zero.contains(&false) { turns.take(|| work(part)) } else { work(part) }
+                let zeros: Vec<bool> = bytes.chunks(PAGE).map(|page| hole || looks_zero(page)).collect();
+                let part = Part { first: blocks_of(&wanted).start, wanted, bytes, zeros: &zeros };
+                if zeros.contains(&false) { turns.take(|| work(part)) } else { work(part) }
             })
         };
-        for batch in parts(&self.range, PART * BATCH) {
-            let ranges: Vec<Range<u64>> = parts(&batch, PART).collect();
+        for batch in parts(&self.range, BLOCK * batch as u64) {
+            let ranges: Vec<Range<u64>> = parts(&batch, BLOCK).collect();
             let done: Vec<Result<T>> = pool.install(|| ranges.into_par_iter().with_max_len(1).map(part).collect());
             done.into_iter().try_for_each(|done| each(done?))?;
         }
