@@ -71,14 +71,14 @@ impl Sweep {
             let last = source.page_count() - 1;
             return Err(Failure::NotDone(format!("{}: it has pages 0 to {last}, and none of those was asked for", source.name())));
         }
-        let cores = || std::thread::available_parallelism().map_or(1, |cores| cores.get());
         Ok(Sweep { source, range, options: common.options(), threads: common.threads.unwrap_or_else(cores) })
     }
 
-    /// `work` is done on each part by any thread, `each` on what it gives, in order, by this one. There is one thread more than may decode at a time,
-    /// so that one reads meanwhile, and then decodes what it has at hand. Zeros are hardly more work than their reading, and take no turn.
+    /// `work` is done on each part by any thread, `each` on what it gives, in order, by this one. Where there is a core to spare, there is one thread
+    /// more than may decode at a time, so that one reads meanwhile, and then decodes what it has at hand. Zeros are hardly more work than their
+    /// reading, and take no turn.
     pub fn run<T: Send>(&self, batch: Batch, work: impl Fn(Part) -> Result<T> + Sync, mut each: impl FnMut(T) -> Result<()>) -> Result<()> {
-        let pool = pool_of(self.threads + 1)?;
+        let pool = pool_of(self.threads + usize::from(self.threads < cores()))?;
         let (turns, rooms) = (Turns::new(self.threads), Rooms::default());
         let part = |wanted: Range<u64>| {
             if interrupted() {
@@ -102,6 +102,10 @@ impl Sweep {
     pub fn pool(&self) -> Result<rayon::ThreadPool> {
         pool_of(self.threads)
     }
+}
+
+fn cores() -> usize {
+    std::thread::available_parallelism().map_or(1, |cores| cores.get())
 }
 
 fn pool_of(threads: usize) -> Result<rayon::ThreadPool> {
