@@ -359,7 +359,7 @@ class WithoutMaps(MendTest):
         first = lost(self.data, {4: range(8)})
         ran = self.mended(first, self.data)
         self.gives(ran, first)
-        self.assertIn("note: 1 page of zeros where a copy has data: with --map", ran.err)
+        self.assertIn("note: 1 page of zeros where a copy has data: give the ddrescue map of the first with --map", ran.err)
 
     def test_a_copy_that_is_longer_is_noted(self):
         first, second = self.file("first.img", self.data[:30 * made.PAGE]), self.file("second.img", self.data)

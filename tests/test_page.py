@@ -140,6 +140,10 @@ class Pages(ProgramTest):
         name = str(self.path).replace("'", "'\\''")
         self.assertEqual(told["may help"], f"`lumeviqo page '{name}' 8 --allow integrity` reads it all the same")
 
+    def test_a_range_is_not_for_one_page(self):
+        ran = run("page", self.path, 3, "--pages", "3..4")
+        self.assertEqual((ran.status, ran.out), (2, b""))
+
     def test_a_page_cut_short(self):
         _, told = self.told(320)
         self.assertEqual(told["length"], "1000 of 4096 bytes are there")

@@ -121,6 +121,11 @@ class Notes(ProgramTest):
         self.assertTrue(ran.startswith(surveyed))
         self.assertIn(f"not read, so rows may be missing: `lumeviqo survey {path}` says why", ran)
 
+    def test_a_directory_is_advised_where_the_crc_is_good_alone(self):
+        path = self.file("every.db", every_outcome())
+        self.assertIn("none of their rows are listed: `--allow directory` takes it", run("rows", path).err)
+        self.assertNotIn("--allow directory", run("rows", path, "--allow", "integrity,keystream").err)
+
     def test_zeros_without_a_map(self):
         ran = run("rows", self.file("zero.db", bytes(4 * made.PAGE)))
         self.assertIn("note: 4 pages of zeros, taken as unallocated; a page that could not be read is zeros too", ran.err)

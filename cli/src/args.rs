@@ -40,11 +40,10 @@ Examples:
 const MEND_EXAMPLES: &str = "\
 Examples:
   lumeviqo mend rescued.img --map rescued.map --copy second.img --copy-map second.map -o mended.db
-  lumeviqo mend rescued.img --map rescued.map --copy second.img --copy-map second.map --copy whole.db -o mended.db --new-map left.map
+  lumeviqo mend a.img --map a.map --copy b.img --copy-map b.map --copy c.db -o new.db --new-map left.map
   lumeviqo mend bad.db --copy other.db -o mended.db           no map: pages whose CRC is bad";
 
-/// Reads SQL Anywhere 17 page files, also such as were rescued from a bad disc: the reading is that of a library which is proved to do what
-/// its rules say.
+/// Reads SQL Anywhere 17 page files, also those rescued from a bad disc, with a library that is proved to do what its rules say
 #[derive(Parser)]
 #[command(name = "lumeviqo", after_help = EXAMPLES, subcommand_required = true, arg_required_else_help = true)]
 pub struct Words {
@@ -97,7 +96,7 @@ pub struct Page {
     /// The page file, or an image that has it inside (see --start)
     pub file: PathBuf,
     /// The page's number; the first is 0
-    #[arg(value_parser = page)]
+    #[arg(value_parser = page, conflicts_with = "pages")]
     pub number: u64,
 }
 
@@ -148,7 +147,7 @@ pub struct Mend {
 
 #[derive(Args)]
 pub struct Common {
-    /// The ddrescue map of FILE: sectors that it has not as read are no data
+    /// The ddrescue map of FILE: sectors that it does not mark as read are not data
     #[arg(long, value_name = "MAP", global = true)]
     pub map: Option<PathBuf>,
     /// Where the page file begins inside an image, in bytes (the map is the image's)
@@ -167,7 +166,7 @@ pub struct Common {
     /// How many of a page's first bytes are searched for its slot directory, 8 to 2048
     #[arg(long, value_name = "N", global = true, default_value_t = header::SEARCH_LIMIT, value_parser = limit)]
     pub limit: usize,
-    /// How many threads read; all cores if not given
+    /// How many threads decode at a time; all cores if not given
     #[arg(long, value_name = "N", global = true, value_parser = threads)]
     pub threads: Option<usize>,
     /// Colours on standard output: auto, always or never

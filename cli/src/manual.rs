@@ -26,15 +26,17 @@ fn say(text: &[u8], common: &Common) -> Result<u8> {
 }
 
 fn manual() -> String {
-    let command = args::command();
+    let mut command = args::command();
+    command.build();
     let mut page = String::new();
     let version = command.get_version().unwrap_or_default();
     let _ = writeln!(page, ".TH LUMEVIQO 1 \"\" \"lumeviqo {}\"", escaped(version));
     let _ = writeln!(page, ".SH NAME\nlumeviqo \\- read SQL Anywhere 17 page files\n.SH SYNOPSIS\n.B lumeviqo\nCOMMAND [OPTIONS]");
     let about = command.get_long_about().or(command.get_about()).map(ToString::to_string).unwrap_or_default();
-    let _ = writeln!(page, ".SH DESCRIPTION\n{}", escaped(&about));
+    let _ = writeln!(page, ".SH DESCRIPTION\n{}.", escaped(&about));
     page.push_str(".SH COMMANDS\n");
-    command.get_subcommands().for_each(|command| put_command(&mut page, command));
+    let commands = command.get_subcommands().filter(|command| command.get_name() != "help");
+    commands.for_each(|command| put_command(&mut page, command));
     page.push_str(".SH OPTIONS OF ALL COMMANDS\n");
     command.get_arguments().for_each(|argument| put_argument(&mut page, argument));
     let examples = command.get_after_help().map(ToString::to_string).unwrap_or_default();
@@ -46,7 +48,9 @@ fn put_command(page: &mut String, command: &Command) {
     let names: Vec<String> = command.get_positionals().map(|argument| argument.get_id().as_str().to_uppercase()).collect();
     let about = command.get_about().map(ToString::to_string).unwrap_or_default();
     let _ = writeln!(page, ".SS {} {}\n{}", command.get_name(), names.join(" "), escaped(&about));
-    command.get_arguments().filter(|argument| !argument.is_positional()).for_each(|argument| put_argument(page, argument));
+    let own =
+        command.get_arguments().filter(|argument| !argument.is_positional() && !argument.is_global_set() && argument.get_id() != "help");
+    own.for_each(|argument| put_argument(page, argument));
 }
 
 fn put_argument(page: &mut String, argument: &Arg) {
@@ -56,7 +60,10 @@ fn put_argument(page: &mut String, argument: &Arg) {
     let values = if argument.get_action().takes_values() { argument.get_value_names().unwrap_or_default() } else { &[] };
     let values: String = values.iter().map(|value| format!(" {value}")).collect();
     let help = argument.get_help().map(ToString::to_string).unwrap_or_default();
-    let _ = writeln!(page, ".TP\n.B {}{}\n{}", escaped(&names.join(", ")), escaped(&values), escaped(&help));
+    let usual: Vec<String> = argument.get_default_values().iter().map(|value| value.to_string_lossy().into()).collect();
+    let shown = !values.is_empty() && !usual.is_empty() && !argument.is_hide_default_value_set();
+    let usual = if shown { format!("; {} if not given", usual.join(" ")) } else { String::new() };
+    let _ = writeln!(page, ".TP\n.B {}{}\n{}{}", escaped(&names.join(", ")), escaped(&values), escaped(&help), escaped(&usual));
 }
 
 /// What the formatter would take for its own: backslashes, hyphens, and a dot or quote that begins a line.

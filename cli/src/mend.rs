@@ -297,7 +297,7 @@ impl Mender<'_> {
     fn notes(&self, done: &Done) -> Result<Vec<String>> {
         let zeros = (done.doubtful > 0).then(|| {
             let pages = counted(done.doubtful, "page");
-            format!("{pages} of zeros where a copy has data: with --map, the ddrescue map of the first, those are taken too")
+            format!("{pages} of zeros where a copy has data: give the ddrescue map of the first with --map, and what it has as unread is filled too")
         });
         let behind = (done.unread_behind > 0).then(|| {
             let bytes = counted(done.unread_behind, "unread byte");

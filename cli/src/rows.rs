@@ -5,7 +5,7 @@ use std::path::Path;
 use lumeviqo::{Options, Row, SECTOR};
 use serde_json::json;
 
-use crate::args::{Common, PageRange, Rows};
+use crate::args::{Allowed, Common, PageRange, Rows};
 use crate::failure::Result;
 use crate::notes::notes;
 use crate::output::Output;
@@ -66,10 +66,11 @@ fn own_notes(tally: &Tally, file: &Path, common: &Common) -> Vec<String> {
         let (pages, command) = (counted(tally.refused(), "page"), common.command("survey", file, None));
         notes.push(format!("{pages} not read, so rows may be missing: `{command}` says why"));
     }
-    let directories: u64 = tally.row_answers.values().sum();
-    if directories > 0 {
-        let pages = counted(directories, "page");
-        notes.push(format!("the slot directory of {pages} is not confirmed, so no rows of those: `--allow directory` takes it"));
+    if tally.unconfirmed_directories > 0 && !common.allows(Allowed::Integrity) {
+        let pages = counted(tally.unconfirmed_directories, "page");
+        notes.push(format!(
+            "the slot directory of {pages} is not confirmed, so none of their rows are listed: `--allow directory` takes it"
+        ));
     }
     notes
 }

@@ -16,7 +16,7 @@ use crate::sketch::sketch;
 use crate::source::Source;
 use crate::sweep::{Batch, Sweep};
 use crate::tally::{Tally, type_name};
-use crate::words::{counted, grouped, hanging, sectors};
+use crate::words::{FIRM, counted, grouped, hanging, sectors};
 
 const COLUMNS: [&str; 12] =
     ["page", "outcome", "answer", "source", "confidence", "bv", "type", "trailer_rows", "rows", "row_answer", "warnings", "unread_sectors"];
@@ -224,7 +224,7 @@ impl Surveyed<'_> {
 }
 
 fn listed(counts: impl IntoIterator<Item = (String, u64)>) -> String {
-    let items: Vec<String> = counts.into_iter().map(|(name, n)| format!("{name} {}", grouped(n))).collect();
+    let items: Vec<String> = counts.into_iter().map(|(name, n)| format!("{name} {}", grouped(n)).replace(' ', &FIRM.to_string())).collect();
     if items.is_empty() { "none".into() } else { items.join(", ") }
 }
 
@@ -238,6 +238,7 @@ fn answer_words(number: usize) -> String {
         header::AMBIGUOUS_CALIBRATION => "ambiguous bv",
         header::KEYSTREAM_UNVERIFIED => "unconfirmed bv",
         header::LOW_CONFIDENCE_KEYSTREAM => "sector in doubt",
+        header::TOO_MANY_CANDIDATES => "too many values of bv",
         header::NO_SLOT_DIRECTORY => "unconfirmed directory",
         header::UNKNOWN_PRELUDE => "unknown prelude",
         header::SLOT_DIRECTORY_TRUNCATED => "truncated directory",

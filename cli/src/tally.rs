@@ -22,6 +22,8 @@ pub struct Tally {
     pub pages_with_rows: u64,
     /// Why a page that was read has no directory, by the answer's number.
     pub row_answers: BTreeMap<usize, u64>,
+    /// How many of these have a good CRC.
+    pub unconfirmed_directories: u64,
     /// Pages that were accepted with a warning.
     pub warnings: u64,
     pub unread_sectors: u64,
@@ -81,6 +83,7 @@ impl Tally {
         other.row_answers.into_iter().for_each(|(key, n)| add(&mut self.row_answers, key, n));
         self.rows += other.rows;
         self.pages_with_rows += other.pages_with_rows;
+        self.unconfirmed_directories += other.unconfirmed_directories;
         self.warnings += other.warnings;
         self.unread_sectors += other.unread_sectors;
         self.blocks += other.blocks;
@@ -101,7 +104,10 @@ impl Tally {
             add(&mut self.types, type_name(trailer), 1);
         }
         match &page.answer {
-            Answer::Accepted(accepted) => self.note_accepted(accepted),
+            Answer::Accepted(accepted) => {
+                self.note_accepted(accepted);
+                self.unconfirmed_directories += u64::from(page.trailer.is_some() && accepted.row_count.is_err());
+            }
             Answer::CutShort(length) => self.cut_short = Some((page.number, *length)),
             _ => {}
         }

@@ -36,12 +36,17 @@ pub fn sectors(bits: u8) -> String {
     numbers.join(" ")
 }
 
+/// A blank that no line is broken at, unless what it holds together is longer than a line.
+pub const FIRM: char = '\u{a0}';
+
 /// A line with its name at the left; where it is longer than `width`, its words go on below themselves.
 pub fn hanging(name: &str, text: &str, width: usize) -> String {
     const INDENT: usize = 13;
     let mut lines = vec![format!("{name:<INDENT$}")];
     let mut used = INDENT;
-    for word in text.split(' ') {
+    let fits = |word: &str| word.chars().count() <= width.saturating_sub(INDENT);
+    let words = text.split(' ').flat_map(|words| if fits(words) { vec![words] } else { words.split(FIRM).collect() });
+    for word in words {
         let columns = word.chars().count();
         if used > INDENT && used + 1 + columns > width {
             lines.push(" ".repeat(INDENT));
@@ -53,7 +58,7 @@ pub fn hanging(name: &str, text: &str, width: usize) -> String {
         }
         used += blank.len() + columns;
     }
-    lines.join("\n")
+    lines.join("\n").replace(FIRM, " ")
 }
 
 #[cfg(test)]
@@ -65,6 +70,8 @@ mod tests {
         assert_eq!(hanging("rows", "12 rows in 3 pages", 80), "rows         12 rows in 3 pages");
         assert_eq!(hanging("rows", "12 rows in 3 pages", 24), "rows         12 rows in\n             3 pages");
         assert_eq!(hanging("rows", "12 rows", 5), "rows         12\n             rows");
+        assert_eq!(hanging("rows", "a 1, b\u{a0}2", 19), "rows         a 1,\n             b 2");
+        assert_eq!(hanging("rows", "long\u{a0}words", 18), "rows         long\n             words");
     }
 
     #[test]
