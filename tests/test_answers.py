@@ -3,7 +3,7 @@ import unittest
 
 import made
 import reported
-from program_helpers import ProgramTest, every_outcome, run
+from program import ProgramTest, every_outcome, run
 
 OPTIONS = {
     "strictly": ([], {}),

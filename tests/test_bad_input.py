@@ -5,7 +5,7 @@ import subprocess
 import unittest
 
 import made
-from program_helpers import PROGRAM, ProgramTest, run, whole_outcomes
+from program import PROGRAM, ProgramTest, run, whole_outcomes
 
 COMMANDS = {
     "survey": lambda path: ["survey", path],

@@ -3,7 +3,7 @@ import os
 import subprocess
 import unittest
 
-from program_helpers import LONGEST, ROOT, ProgramTest
+from program import LONGEST, ROOT, ProgramTest
 
 
 class Build(ProgramTest):

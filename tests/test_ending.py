@@ -9,7 +9,7 @@ import unittest
 from pathlib import Path
 
 import made
-from program_helpers import ENVIRONMENT, LONGEST, PROGRAM, ProgramTest, every_outcome, lost, run, whole_outcomes
+from program import ENVIRONMENT, LONGEST, PROGRAM, ProgramTest, every_outcome, lost, run, whole_outcomes
 
 # The system's numbers of these calls on x86-64.
 FSYNC, PREAD = ("74", "75"), ("17",)

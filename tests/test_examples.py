@@ -7,7 +7,7 @@ import tempfile
 import unittest
 from pathlib import Path
 
-from program_helpers import LONGEST, ROOT, ProgramTest
+from program import LONGEST, ROOT, ProgramTest
 
 SAMPLE = ROOT / "bindings/sample.pages"
 LIBRARY = Path(os.environ.get("LUMEVIQO_LIB", ROOT / "target/staticlib")) / "liblumeviqo.a"

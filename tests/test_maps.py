@@ -3,7 +3,7 @@ import unittest
 
 import made
 import maps
-from program_helpers import ProgramTest, ddrescue, lost, run, whole_outcomes
+from program import ProgramTest, ddrescue, lost, run, whole_outcomes
 
 STATUS_LINE = "the status line: position, status and pass, as `0x00000000 ? 1`"
 BLOCK = "position, size and status, as `0x00000000 0x00001000 +`"

@@ -6,7 +6,7 @@ import unittest
 
 import made
 import maps
-from program_helpers import EXISTS, PART_EXISTS, ProgramTest, ddrescue, lost, run, whole_outcomes
+from program import EXISTS, PART_EXISTS, ProgramTest, ddrescue, lost, run, whole_outcomes
 
 BAD_1 = {4: [2], 8: [6, 7], 9: [0, 1, 2], 12: range(8), 17: [3], 20: [5], 3: [4]}
 BAD_2 = {4: [3], 8: [0], 9: [4], 5: [1], 28: [7], 7: [0]}

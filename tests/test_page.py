@@ -3,7 +3,7 @@ import re
 import unittest
 
 import made
-from program_helpers import ProgramTest, every_outcome, lost, run, whole_outcomes
+from program import ProgramTest, every_outcome, lost, run, whole_outcomes
 
 
 class Pages(ProgramTest):

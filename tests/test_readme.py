@@ -4,7 +4,7 @@ import shlex
 import subprocess
 import unittest
 
-from program_helpers import LONGEST, PROGRAM, ROOT, SAMPLES, ProgramTest
+from program import LONGEST, PROGRAM, ROOT, SAMPLES, ProgramTest
 
 README = (ROOT / "README.md").read_text()
 # A command, and the next block of output before any other command.

@@ -4,7 +4,7 @@ import pty
 import subprocess
 import unittest
 
-from program_helpers import LONGEST, ROOT, ProgramTest
+from program import LONGEST, ROOT, ProgramTest
 
 REPORT = ROOT / "target/bin/report"
 USAGE = "usage: report < FRAMES > LINES, a frame a line in hexadecimal: see README; for a page file use ./lumeviqo\n"

@@ -3,7 +3,7 @@ import subprocess
 import unittest
 
 import made
-from program_helpers import ProgramTest, every_outcome, run, whole_outcomes
+from program import ProgramTest, every_outcome, run, whole_outcomes
 
 
 def expected(pages):

@@ -3,7 +3,7 @@ import subprocess
 import sys
 import unittest
 
-from program_helpers import SAMPLES, ProgramTest, run
+from program import SAMPLES, ProgramTest, run
 
 
 def told(text):

@@ -7,7 +7,7 @@ import xml.etree.ElementTree as xml
 from collections import Counter
 
 import made
-from program_helpers import EXISTS, PART_EXISTS, ProgramTest, every_outcome, lost, run, whole_outcomes
+from program import EXISTS, PART_EXISTS, ProgramTest, every_outcome, lost, run, whole_outcomes
 
 OUTCOMES = ["unallocated", "superblock", "verified", "calibrated", "corroborated", "unverified", "undecided", "damaged", "cut short",
             "unread"]

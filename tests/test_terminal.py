@@ -10,7 +10,7 @@ import threading
 import unittest
 
 import made
-from program_helpers import ENVIRONMENT, LONGEST, PROGRAM, ProgramTest, every_outcome, run, whole_outcomes
+from program import ENVIRONMENT, LONGEST, PROGRAM, ProgramTest, every_outcome, run, whole_outcomes
 
 LONG_RUN = 8 << 30  # bytes of holes, which take a second or so
 

@@ -6,7 +6,7 @@ import unittest
 from pathlib import Path
 
 import made
-from program_helpers import PROGRAM, ProgramTest, every_outcome, lost, run
+from program import PROGRAM, ProgramTest, every_outcome, lost, run
 
 MOST_MEMORY = 64 * 1024  # KiB
 

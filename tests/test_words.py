@@ -3,7 +3,7 @@ import shutil
 import subprocess
 import unittest
 
-from program_helpers import ProgramTest, run
+from program import ProgramTest, run
 
 COMMANDS = ["survey", "page", "rows", "mend", "completions", "man"]
 COMMON = ["--map", "--start", "--pages", "--allow", "--min-count", "--limit", "--threads", "--color", "--quiet"]
