@@ -119,8 +119,8 @@ impl<'a> Stored<'a> {
 
 /// Those pages of a block that are wanted; the others are looked at for their anchors.
 pub fn read_block<'a>(pages: impl Iterator<Item = Stored<'a>>, wanted: &Range<u64>, options: Options) -> Vec<PageReading> {
-    let mut plain = [0; PAGE];
-    let looks: Vec<(u64, u8, Look)> = pages.map(|page| (page.number, page.unread, look(page, options, &mut plain))).collect();
+    let mut zeros = None;
+    let looks: Vec<(u64, u8, Look)> = pages.map(|page| (page.number, page.unread, look(page, options, &mut zeros))).collect();
     let anchors: Vec<(u64, u8)> = looks.iter().filter_map(|(number, _, look)| Some((*number, look.anchor()?))).collect();
     let wanted = looks.into_iter().filter(|(number, ..)| wanted.contains(number));
     wanted.map(|(number, unread, look)| look.read(number, unread, &others(&anchors, number), options)).collect()
@@ -134,17 +134,19 @@ fn others(anchors: &[(u64, u8)], number: u64) -> Vec<u8> {
     values
 }
 
-/// `plain` is lent to whoever needs room for a page.
-fn look(stored: Stored, options: Options, plain: &mut [u8; PAGE]) -> Look {
+/// `unallocated` is the library's word on a page of zeros, which is asked for once in a block: pages with the same bytes have the same answer.
+fn look(stored: Stored, options: Options, unallocated: &mut Option<bool>) -> Look {
     let Stored { number, bytes: page, unread, zeros, .. } = stored;
     if page.len() < PAGE {
         return Look::Done(Outcome::CutShort, Answer::CutShort(page.len()));
     }
-    if zeros && unread == 0 && is_unallocated(number, page, options, plain) {
-        return Look::Done(Outcome::Unallocated, Answer::Unallocated);
-    }
-    if zeros && unread != 0 && is_zero(page) {
-        return Look::Done(Outcome::Unread, Answer::Unread);
+    if zeros && is_zero(page) {
+        if unread != 0 {
+            return Look::Done(Outcome::Unread, Answer::Unread);
+        }
+        if *unallocated.get_or_insert_with(|| is_unallocated(number, page, options)) {
+            return Look::Done(Outcome::Unallocated, Answer::Unallocated);
+        }
     }
     let sound = lumeviqo::integrity(number, page);
     let lost = unread != 0 && matches!(sound, Err(Refusal::BadCrc { .. }));
@@ -169,9 +171,8 @@ fn superblock(sound: std::result::Result<(), Refusal>, lost: bool) -> Look {
     }
 }
 
-/// It is the library that says so, which looks at every byte.
-fn is_unallocated(number: u64, page: &[u8], options: Options, plain: &mut [u8; PAGE]) -> bool {
-    lumeviqo::decode(number, page, &[], options, plain).is_ok_and(|decoding| decoding.source == BvSource::Unallocated)
+fn is_unallocated(number: u64, page: &[u8], options: Options) -> bool {
+    lumeviqo::decode(number, page, &[], options, &mut [0; PAGE]).is_ok_and(|decoding| decoding.source == BvSource::Unallocated)
 }
 
 fn scanned(stored: Stored, sound: bool, lost: bool, options: Options) -> Look {
