@@ -179,7 +179,7 @@ extern "C" {
 #define LUMEVIQO_LEAST_SEARCH_LIMIT 8 /* four slots take so many */
 #define LUMEVIQO_GREATEST_SEARCH_LIMIT 2048
 
-/* Answers, and their values. */
+/* Answers, and their values. 15 is not used: it was for more than eight candidates, and no page has so many. */
 #define LUMEVIQO_ACCEPTED 0
 #define LUMEVIQO_WRONG_PAGE_LENGTH 1 /* length */
 #define LUMEVIQO_WRONG_BUFFER_LENGTH 2 /* length: of `out`, or else of `shifted` */
@@ -195,7 +195,6 @@ extern "C" {
 #define LUMEVIQO_SLOT_OFFSET_IN_DIRECTORY 12 /* page, the offset, where the directory ends */
 #define LUMEVIQO_BAD_MAGIC 13 /* magic */
 #define LUMEVIQO_BAD_REPLACEMENT 14 /* sector */
-#define LUMEVIQO_TOO_MANY_CANDIDATES 15 /* page */
 #define LUMEVIQO_NO_SUCH_ROW 16 /* row number */
 #define LUMEVIQO_LIMIT_OUT_OF_RANGE 20 /* search limit */
 
@@ -288,14 +287,14 @@ size_t lumeviqo_replace(uint64_t number, uint8_t *stored, size_t stored_length, 
    apart. */
 
 /* Decodes a stored page: the plain page is written to `out`. `anchors` holds the values of bv of other pages of its block (16 pages,
-   the first a multiple of 16), in any order. Page 0 is the superblock and is not shifted: see lumeviqo_superblock. Refuses: 1 to 7, 15,
-   20. Layout Decoding. */
+   the first a multiple of 16), in any order. Page 0 is the superblock and is not shifted: see lumeviqo_superblock. Refuses: 1 to 7, 20.
+   Layout Decoding. */
 size_t lumeviqo_decode(uint64_t number, const uint8_t *stored, size_t stored_length, const uint8_t *anchors, size_t anchors_length,
                        uint8_t leniency, uint8_t min_trailer_count, size_t search_limit, uint8_t *out, size_t out_length,
                        uint8_t *answer, size_t answer_length);
 
 /* The same from a summary: the fits and shifted bytes that lumeviqo_scan or the last lumeviqo_replace gave under this number. Refuses:
-   1 to 7, 15, 20. Layout Decoding. */
+   1 to 7, 20. Layout Decoding. */
 size_t lumeviqo_decode_summary(uint64_t number, const uint8_t *stored, size_t stored_length, const uint8_t *fits, size_t fits_length,
                                const uint8_t *shifted, size_t shifted_length, const uint8_t *anchors, size_t anchors_length,
                                uint8_t leniency, uint8_t min_trailer_count, size_t search_limit, uint8_t *out, size_t out_length,

@@ -43,8 +43,6 @@ static const struct words answers[] = {
     [LUMEVIQO_SLOT_OFFSET_IN_DIRECTORY] = {.what = "a slot offset lies inside the directory", .help = "allow DIRECTORY (2) to drop it"},
     [LUMEVIQO_BAD_MAGIC] = {.what = "this is no page 0 of a SQL Anywhere 17 file"},
     [LUMEVIQO_BAD_REPLACEMENT] = {.what = "sectors are 0 to 7, and a sector takes 512 bytes, sector 7 with its trailer"},
-    [LUMEVIQO_TOO_MANY_CANDIDATES] = {.what = "more than eight values of bv to choose from",
-                                      .help = REPLACE ", or decode it with a bv that you supply"},
     [LUMEVIQO_NO_SUCH_ROW] = {.what = "there is no such row", .help = "rows are counted from 0"},
     [LUMEVIQO_LIMIT_OUT_OF_RANGE] = {.what = "a search limit is 8 to 2048",
                                      .help = "take the usual 768, or up to 2048 where a directory lies further on"},
@@ -71,7 +69,7 @@ static struct words words_of(uint8_t answer) {
 
 /* An answer to a decoding or a parse, which are not for page 0. */
 static bool is_of_a_reading(uint8_t answer) {
-    return (answer >= LUMEVIQO_BAD_CRC && answer <= LUMEVIQO_SLOT_OFFSET_IN_DIRECTORY) || answer == LUMEVIQO_TOO_MANY_CANDIDATES;
+    return answer >= LUMEVIQO_BAD_CRC && answer <= LUMEVIQO_SLOT_OFFSET_IN_DIRECTORY;
 }
 
 static const char *help(uint64_t number, uint8_t answer, uint8_t leniency) {

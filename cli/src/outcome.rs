@@ -12,7 +12,7 @@ pub enum Outcome {
     Corroborated,
     /// Taken under KEYSTREAM alone.
     Unverified,
-    /// Answers 5, 6, 7 and 15: nothing settles how the page is read.
+    /// Answers 5, 6 and 7: nothing settles how the page is read.
     Undecided,
     /// Answers 3 and 4.
     Damaged,

@@ -238,7 +238,6 @@ fn answer_words(number: usize) -> String {
         header::AMBIGUOUS_CALIBRATION => "ambiguous bv",
         header::KEYSTREAM_UNVERIFIED => "unconfirmed bv",
         header::LOW_CONFIDENCE_KEYSTREAM => "sector in doubt",
-        header::TOO_MANY_CANDIDATES => "too many values of bv",
         header::NO_SLOT_DIRECTORY => "unconfirmed directory",
         header::UNKNOWN_PRELUDE => "unknown prelude",
         header::SLOT_DIRECTORY_TRUNCATED => "truncated directory",

@@ -92,8 +92,6 @@ def assess(shifted):
 def choose(shifted, anchors, count, t, limit, lenient):
     values = [v for part in shifted for v in part]
     counts, votes, top, candidates = assess(shifted)
-    if len(candidates) > 8:
-        return 15
     verified = {v for v in candidates if count != 0 and row_count_matches([(x - v) % 256 for x in values], count, t, limit)}
     anchored = {v for v in candidates if v in anchors}
 

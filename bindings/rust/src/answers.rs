@@ -313,11 +313,6 @@ pub enum Refusal {
         /// The sector that was to be replaced.
         sector: usize,
     },
-    /// Answer 15: there are nine values of bv or more to choose from.
-    TooManyCandidates {
-        /// The page's number.
-        page: u64,
-    },
     /// Answer 16: the page has no row of this number.
     NoSuchRow(usize),
     /// Answer 20: the search limit is below 8 or above 2,048.

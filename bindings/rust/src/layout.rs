@@ -121,7 +121,6 @@ impl Layout<'_> {
             h::SLOT_OFFSET_IN_DIRECTORY => Refusal::SlotOffsetInDirectory { page: v[0], offset: v[1], end: v[2] },
             h::BAD_MAGIC => Refusal::BadMagic(v[0] as u32),
             h::BAD_REPLACEMENT => Refusal::BadReplacement { sector: v[0] as usize },
-            h::TOO_MANY_CANDIDATES => Refusal::TooManyCandidates { page: v[0] },
             h::NO_SUCH_ROW => Refusal::NoSuchRow(v[0] as usize),
             h::LIMIT_OUT_OF_RANGE => Refusal::LimitOutOfRange(v[0] as usize),
             n => own(n, v).unwrap_or_else(|| unknown("answer", n)),

@@ -146,8 +146,8 @@ pub fn replace(number: u64, stored: &mut [u8], shifted: &mut [u8], fits: &Fits, 
 ///
 /// # Errors
 /// [`Refusal::WrongPageLength`], [`Refusal::WrongBufferLength`], [`Refusal::LimitOutOfRange`]; without INTEGRITY [`Refusal::BadCrc`],
-/// [`Refusal::BadTrailer`]; [`Refusal::TooManyCandidates`]; without KEYSTREAM [`Refusal::AmbiguousCalibration`],
-/// [`Refusal::KeystreamUnverified`], [`Refusal::LowConfidenceKeystream`].
+/// [`Refusal::BadTrailer`]; without KEYSTREAM [`Refusal::AmbiguousCalibration`], [`Refusal::KeystreamUnverified`],
+/// [`Refusal::LowConfidenceKeystream`].
 pub fn decode(number: u64, stored: &[u8], anchors: &[u8], options: Options, out: &mut [u8]) -> Result<Decoding, Refusal> {
     let (asked_with, wrong) = (Asked::with_anchors(anchors, options), first_wrong(out));
     asked::<{ header::DECODING_LENGTH }, _>(

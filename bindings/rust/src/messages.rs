@@ -56,7 +56,6 @@ impl Display for What<'_> {
             }
             Refusal::BadMagic(magic) => write!(f, "magic {magic:08x}, not da7aba5e"),
             Refusal::BadReplacement { sector } => write!(f, "sector {sector} cannot be replaced by these bytes"),
-            Refusal::TooManyCandidates { page } => write!(f, "page {page}: more than eight values of bv to choose from"),
             Refusal::NoSuchRow(row) => write!(f, "there is no row {row}"),
             Refusal::LimitOutOfRange(limit) => {
                 write!(f, "a search limit is {LEAST_SEARCH_LIMIT} to {GREATEST_SEARCH_LIMIT}, and {limit} was asked for")
@@ -94,7 +93,6 @@ impl Refusal {
             Refusal::BadReplacement { .. } => {
                 write!(f, ": sectors are 0 to 7, and a sector takes {SECTOR_LENGTH} bytes, sector 7 with its trailer")
             }
-            Refusal::TooManyCandidates { .. } => write!(f, ": {REPLACE}, or decode it with a bv that you supply"),
             Refusal::NoSuchRow(_) => write!(f, ": rows are counted from 0"),
             Refusal::LimitOutOfRange(_) => {
                 write!(f, ": take the usual {SEARCH_LIMIT}, or up to {GREATEST_SEARCH_LIMIT} where a directory lies further on")

@@ -20,7 +20,6 @@ impl Refusal {
             Refusal::SlotOffsetInDirectory { .. } => h::SLOT_OFFSET_IN_DIRECTORY,
             Refusal::BadMagic(_) => h::BAD_MAGIC,
             Refusal::BadReplacement { .. } => h::BAD_REPLACEMENT,
-            Refusal::TooManyCandidates { .. } => h::TOO_MANY_CANDIDATES,
             Refusal::NoSuchRow(_) => h::NO_SUCH_ROW,
             Refusal::LimitOutOfRange(_) => h::LIMIT_OUT_OF_RANGE,
             Refusal::Unknown { number, .. } => *number,
@@ -39,8 +38,7 @@ impl Refusal {
             | Refusal::UnknownPrelude { page }
             | Refusal::SlotDirectoryTruncated { page, .. }
             | Refusal::AmbiguousSlotDirectory { page }
-            | Refusal::SlotOffsetInDirectory { page, .. }
-            | Refusal::TooManyCandidates { page } => Some(page),
+            | Refusal::SlotOffsetInDirectory { page, .. } => Some(page),
             Refusal::WrongPageLength(_)
             | Refusal::WrongBufferLength { .. }
             | Refusal::BadMagic(_)

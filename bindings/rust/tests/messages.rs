@@ -65,11 +65,6 @@ fn damage() {
              zeros in their place mislead the choice of bv; INTEGRITY reads the page all the same",
         ),
         (Refusal::BadTrailer { page: 7 }, "page 7: reserved trailer bytes are not zero: allow INTEGRITY to read it"),
-        (
-            Refusal::TooManyCandidates { page: 7 },
-            "page 7: more than eight values of bv to choose from: replace damaged sectors from a second copy, or decode it with a bv that \
-             you supply",
-        ),
     ]);
 }
 
@@ -197,7 +192,6 @@ fn page_0_points_to_the_superblock() {
         Refusal::SlotDirectoryTruncated { page: 0, found: 5, expected: 9, stop: 78 },
         Refusal::AmbiguousSlotDirectory { page: 0 },
         Refusal::SlotOffsetInDirectory { page: 0, offset: 70, end: 78 },
-        Refusal::TooManyCandidates { page: 0 },
     ];
     for text in others.map(|refusal| refusal.to_string()) {
         assert!(text.ends_with(": page 0 is the superblock and is not shifted: `superblock` reads it"), "{text}");
@@ -224,7 +218,6 @@ fn nothing_advises_keystream_after_integrity() {
 fn numbers_of_refusals() {
     let told = |refusal: Refusal| (refusal.number(), refusal.page());
     assert_eq!(told(Refusal::BadTrailer { page: 9 }), (4, Some(9)));
-    assert_eq!(told(Refusal::TooManyCandidates { page: 0 }), (15, Some(0)));
     assert_eq!(told(Refusal::NoSuchRow(9)), (16, None));
     assert_eq!(told(Refusal::LimitOutOfRange(9)), (20, None));
     assert_eq!(told(Refusal::Unknown { what: "answer", number: 21 }), (21, None));

@@ -1,12 +1,14 @@
--- No two answers share a number and values, and no two reasons a number: a number and values name one answer. Assumes nothing.
+-- No two answers share a number and values, and no two reasons a number: a number and values name one answer. No answer has number 15.
+-- Assumes nothing.
 use Prim.Native.Nat.{ℕ}
 use mathlib.Core.Path.{_≡_, refl, sym, ap, ap₂, _∙_}
 use mathlib.Core.List.{List, [], _∷_}
+use native.Mathlib.Omega.{arith}
 use lib.ListN.{getD}
 use Rattle.answers.specs.declared.kinds.Reason.{Reason}
 use Rattle.answers.specs.declared.kinds.Reason.the-variants.{CountBelowFour, FewerThanEightLive, Unconfirmed}
 use Rattle.answers.specs.declared.kinds.Answer.{Answer}
-use Rattle.answers.specs.declared.kinds.Answer.the-variants.{Accepted, WrongPageLength, WrongBufferLength, BadCrc, BadTrailer, AmbiguousCalibration, KeystreamUnverified, LowConfidenceKeystream, NoSlotDirectory, UnknownPrelude, SlotDirectoryTruncated, AmbiguousSlotDirectory, SlotOffsetInDirectory, BadMagic, BadReplacement, TooManyCandidates, NoSuchRow, MalformedLine, LimitOutOfRange}
+use Rattle.answers.specs.declared.kinds.Answer.the-variants.{Accepted, WrongPageLength, WrongBufferLength, BadCrc, BadTrailer, AmbiguousCalibration, KeystreamUnverified, LowConfidenceKeystream, NoSlotDirectory, UnknownPrelude, SlotDirectoryTruncated, AmbiguousSlotDirectory, SlotOffsetInDirectory, BadMagic, BadReplacement, NoSuchRow, MalformedLine, LimitOutOfRange}
 use Rattle.answers.specs.Answers.{reasonNumber, numberOf, valuesOf}
 
 -- the way back: the reason of a number, and the answer of a number and values
@@ -34,7 +36,7 @@ answerFrom n l =
     ∷ SlotOffsetInDirectory (v l 0) (v l 1) (v l 2)
     ∷ BadMagic (v l 0)
     ∷ BadReplacement (v l 0)
-    ∷ TooManyCandidates (v l 0)
+    ∷ MalformedLine
     ∷ NoSuchRow (v l 0)
     ∷ MalformedLine
     ∷ MalformedLine
@@ -66,7 +68,6 @@ answer-back (AmbiguousSlotDirectory page) = refl
 answer-back (SlotOffsetInDirectory page offset end) = refl
 answer-back (BadMagic magic) = refl
 answer-back (BadReplacement sector) = refl
-answer-back (TooManyCandidates page) = refl
 answer-back (NoSuchRow row) = refl
 answer-back MalformedLine = refl
 answer-back (LimitOutOfRange limit) = refl
@@ -77,3 +78,10 @@ same-answer a b n l = sym (answer-back a) ∙ ap₂ answerFrom n l ∙ answer-ba
 
 pub same-reason : (r s : Reason) → reasonNumber r ≡ reasonNumber s → r ≡ s
 same-reason r s n = sym (reason-back r) ∙ ap reasonFrom n ∙ reason-back s
+
+-- number 15 stays unused: in the way back it names an answer that has another number
+pub fifteen-unused : (a : Answer) → numberOf a ≡ 15 → ⊥
+unfolding answerFrom
+fifteen-unused a e =
+    let other : numberOf a ≡ 17 = ap numberOf (sym (answer-back a) ∙ ap (λ (n : ℕ). answerFrom n (valuesOf a)) e) in
+    omega arith

@@ -1,4 +1,5 @@
--- Document 01, "Answer numbers", and 20 of request #109: the number and the values of each answer. Assumes nothing.
+-- Document 01, "Answer numbers", without 15, which no page gets (request #107), and 20 of request #109: the number and the values of each answer.
+-- Assumes nothing.
 use Prim.Native.Nat.{ℕ, _+_}
 use mathlib.Core.Bool.{Bool}
 use mathlib.Core.List.{List, [], _∷_}
@@ -8,7 +9,7 @@ use Rattle.lists.specs.Cases.{pick}
 use Rattle.answers.specs.declared.kinds.Reason.{Reason}
 use Rattle.answers.specs.declared.kinds.Reason.the-variants.{CountBelowFour, FewerThanEightLive, Unconfirmed}
 use Rattle.answers.specs.declared.kinds.Answer.{Answer}
-use Rattle.answers.specs.declared.kinds.Answer.the-variants.{Accepted, WrongPageLength, WrongBufferLength, BadCrc, BadTrailer, AmbiguousCalibration, KeystreamUnverified, LowConfidenceKeystream, NoSlotDirectory, UnknownPrelude, SlotDirectoryTruncated, AmbiguousSlotDirectory, SlotOffsetInDirectory, BadMagic, BadReplacement, TooManyCandidates, NoSuchRow, MalformedLine, LimitOutOfRange}
+use Rattle.answers.specs.declared.kinds.Answer.the-variants.{Accepted, WrongPageLength, WrongBufferLength, BadCrc, BadTrailer, AmbiguousCalibration, KeystreamUnverified, LowConfidenceKeystream, NoSlotDirectory, UnknownPrelude, SlotDirectoryTruncated, AmbiguousSlotDirectory, SlotOffsetInDirectory, BadMagic, BadReplacement, NoSuchRow, MalformedLine, LimitOutOfRange}
 use Rattle.answers.specs.declared.kinds.Bvs.{Bvs}
 
 -- the reasons of answer 8: n from 1 to 3; fewer than 8 live; unconfirmed
@@ -34,7 +35,6 @@ numberOf (AmbiguousSlotDirectory page) = 11
 numberOf (SlotOffsetInDirectory page offset end) = 12
 numberOf (BadMagic magic) = 13
 numberOf (BadReplacement sector) = 14
-numberOf (TooManyCandidates page) = 15
 numberOf (NoSuchRow row) = 16
 numberOf MalformedLine = 17
 numberOf (LimitOutOfRange limit) = 20
@@ -56,7 +56,6 @@ valuesOf (AmbiguousSlotDirectory page) = page ∷ []
 valuesOf (SlotOffsetInDirectory page offset end) = page ∷ offset ∷ end ∷ []
 valuesOf (BadMagic magic) = magic ∷ []
 valuesOf (BadReplacement sector) = sector ∷ []
-valuesOf (TooManyCandidates page) = page ∷ []
 valuesOf (NoSuchRow row) = row ∷ []
 valuesOf MalformedLine = []
 valuesOf (LimitOutOfRange limit) = limit ∷ []

@@ -1,4 +1,4 @@
-// The answers, each with its number and values: document 01's table, and 20 of request #109.
+// The answers, each with its number and values: document 01's table without its 15 (request #107), and 20 of request #109.
 ghost use mathlib.Core.Path.{_≡_};
 ghost use Rattle.answers.specs.Values.{placed};
 ghost use Rattle.answers.specs.Answers.{numberOf, valuesOf, isAccepted, reasonNumber, noBvs, withBv};
@@ -64,7 +64,6 @@ pub enum Answer {
     },
     BadMagic(u32),
     BadReplacement(usize),
-    TooManyCandidates(u64),
     NoSuchRow(usize),
     MalformedLine,
     LimitOutOfRange(usize),
@@ -109,7 +108,6 @@ impl Answer {
             } => 12,
             Answer::BadMagic(_) => 13,
             Answer::BadReplacement(_) => 14,
-            Answer::TooManyCandidates(_) => 15,
             Answer::NoSuchRow(_) => 16,
             Answer::MalformedLine => 17,
             Answer::LimitOutOfRange(_) => 20,
@@ -152,7 +150,6 @@ impl Answer {
             }
             Answer::BadMagic(magic) => Values::one(magic as u64),
             Answer::BadReplacement(sector) => Values::one(sector as u64),
-            Answer::TooManyCandidates(page) => Values::one(page),
             Answer::NoSuchRow(row) => Values::one(row as u64),
             Answer::MalformedLine => Values::none(),
             Answer::LimitOutOfRange(limit) => Values::one(limit as u64),

@@ -3,7 +3,7 @@ use Prim.Native.Nat.{ℕ, _-_, _≤_, _<_}
 use mathlib.Core.Path.{_≡_, sym}
 use mathlib.Core.Bool.{Bool, true, false, _&&_}
 use mathlib.Core.List.{List}
-use borrow.Author.Tests.{eq-eqb, ne-eqb, le-leb, lt-leb, lt-ltb, le-ltb}
+use borrow.Author.Tests.{eq-eqb, ne-eqb, le-leb, lt-leb}
 use lib.Dec.{eqb, leb}
 use lib.ListN.{length}
 use Rattle.lists.specs.Bytes.{plainOf}
@@ -26,7 +26,7 @@ use Rattle.votes.specs.Votes.{assessmentOf, ballots, pollOf}
 use Rattle.votes.proofs.Ballots.{poll-is}
 use Rattle.groups.specs.declared.Group.the-variants.{Verified, Voted, Others, Rivals, Contest, Supported}
 use Rattle.groups.specs.Groups.{firstOf, members, group, highestOf, bvsOf}
-use Rattle.choice.specs.Rules.{takenOf, refusedOf, ambiguousOf, unverifiedOf, topCandidate, ruleFour, isCorroborated, ruleThree, isCalibrated, ruleTwo, soleOf, ruleOne, chosen, choiceOf}
+use Rattle.choice.specs.Rules.{takenOf, refusedOf, ambiguousOf, unverifiedOf, topCandidate, ruleFour, isCorroborated, ruleThree, isCalibrated, ruleTwo, soleOf, ruleOne, choiceOf}
 use Rattle.choice.specs.Supplied.{suppliedWith, suppliedBy, suppliedOf}
 
 module _ (number : ℕ) (a : Assessment) (lenient : Bool) where
@@ -136,15 +136,7 @@ module _ (number : ℕ) (lenient : Bool) (a : Assessment) where
   unfolding ruleOne
   one-on h e = rw (lt-leb 2 (length (group Verified a)) h, ne-eqb (length (group Verified a)) 1 e)
 
-  -- the choice
-  pub chosen-many : 8 < a .candidates .len → chosen number lenient a ≡ refusedOf (answer.TooManyCandidates number) noBvs
-  unfolding chosen
-  chosen-many h = rw (lt-ltb 8 (a .candidates .len) h)
-
-  pub chosen-few : a .candidates .len ≤ 8 → chosen number lenient a ≡ ruleOne number lenient a
-  unfolding chosen
-  chosen-few h = rw (le-ltb 8 (a .candidates .len) h)
-
+-- the choice
 module _ (number : ℕ) (xs anchors : List ℕ) (n : ℕ) (o : Options) where
   pub choice-length : (length xs ≡ 4080 → ⊥) → choiceOf number xs anchors n o ≡ refusedOf (answer.WrongBufferLength (length xs)) noBvs
   unfolding choiceOf
@@ -161,7 +153,7 @@ module _ (number : ℕ) (xs anchors : List ℕ) (n : ℕ) (o : Options) where
       length xs ≡ 4080
       → limitFits (o .«search_limit») ≡ true
       → choiceOf number xs anchors n o
-      ≡ chosen number (keystream o) (assessmentOf (o .«search_limit») xs anchors n (o .«min_trailer_count»))
+      ≡ ruleOne number (keystream o) (assessmentOf (o .«search_limit») xs anchors n (o .«min_trailer_count»))
   unfolding choiceOf
   choice-is h f = rw (eq-eqb (length xs) 4080 h, f)
 

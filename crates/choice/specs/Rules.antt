@@ -112,15 +112,12 @@ ruleOne number lenient a =
     pick (leb 2 (length verified)) (ambiguousOf number lenient a verified)
     (pick (eqb (length verified) 1) (soleOf number lenient a (firstOf verified)) (ruleTwo number lenient a))
 
--- answer 15 for more than eight candidates, else the rules
-unfoldable pub chosen : ℕ → Bool → Assessment → Choice
-chosen number lenient a = pick (ltb 8 (a .candidates .len)) (refusedOf (answer.TooManyCandidates number) noBvs) (ruleOne number lenient a)
-
--- the choice for the shifted bytes, of which there must be 4,080, at a search limit in its range; n is the stored row count
+-- the choice for the shifted bytes, of which there must be 4,080, at a search limit in its range; n is the stored row count. The rules read every
+-- candidate: votes/specs/Eight
 unfoldable pub choiceOf : ℕ → List ℕ → List ℕ → ℕ → Options → Choice
 choiceOf number shifted anchors n o =
     pick (eqb (length shifted) 4080)
     (pick (limitFits (o .«search_limit»))
-    (chosen number (keystream o) (assessmentOf (o .«search_limit») shifted anchors n (o .«min_trailer_count»)))
+    (ruleOne number (keystream o) (assessmentOf (o .«search_limit») shifted anchors n (o .«min_trailer_count»)))
     (refusedOf (answer.LimitOutOfRange (o .«search_limit»)) noBvs))
     (refusedOf (answer.WrongBufferLength (length shifted)) noBvs)

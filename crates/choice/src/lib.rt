@@ -39,10 +39,6 @@ pub fn choose_bv(number: u64, shifted: &[u8], anchors: &[u8], n: u8, options: Op
         return refused(Answer::LimitOutOfRange(limit), none);
     }
     let a = votes::assess(shifted, anchors, limit, n, options.min_trailer_count);
-    let found = a.candidates;
-    if 8 < found.len {
-        return refused(Answer::TooManyCandidates(number), none);
-    }
     let leniency = options.leniency;
     rules::rule_one(number, leniency.keystream(), a)
 }

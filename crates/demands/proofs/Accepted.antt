@@ -1,11 +1,10 @@
 -- WHAT IS ACCEPTED, proved. Assumes nothing.
-use Prim.Native.Nat.{ℕ, _+_, _-_, _*_, _/_, _%_, _≤_, _<_}
+use Prim.Native.Nat.{ℕ, _+_, _-_, _*_, _/_, _%_, _<_}
 use mathlib.Core.Path.{_≡_, refl, sym, ap, _∙_, subst}
 use mathlib.Core.Bool.{true}
 use mathlib.Core.List.{List}
 use native.Mathlib.Omega.{arith}
-use lib.ListN.{length, drop}
-use lib.Seq.{getD-take, getD-drop}
+use lib.ListN.{length}
 use Rattle.lists.specs.Bytes.{byteAt}
 use Rattle.lists.specs.Counts.{allSame}
 use Rattle.lists.proofs.Each.{each-at}
@@ -27,11 +26,11 @@ use Rattle.sector.specs.Scan.{blankFit}
 use Rattle.sector.specs.declared.fits.Fit.{Fit}
 use Rattle.page.specs.Trailer.{rowCount}
 use Rattle.summary.specs.Page.{sectorEnd, part, fitAt, bytesAt, fitsOf, bytesOf}
-use Rattle.summary.proofs.Parts.{part-length, joined-at}
+use Rattle.summary.proofs.Parts.{part-length, part-at, joined-at}
 use Rattle.summary.proofs.Sectors.{bytes-sized, summary-length, summary-exact}
 use Rattle.choice.specs.declared.Choice.{Choice}
 use Rattle.choice.specs.Rules.{choiceOf}
-use Rattle.meanings.specs.Sources.{candidateNumber, SoleVerified, Marked, ByRowCount}
+use Rattle.meanings.specs.Sources.{SoleVerified, Marked, ByRowCount}
 use Rattle.meanings.proofs.Sources.{choice-means}
 use Rattle.verdict.specs.declared.Decoding.{Decoding}
 use Rattle.verdict.specs.Sectors.{entry, sectorWarnings}
@@ -40,11 +39,6 @@ use Rattle.demands.specs.Accepted.{GoodPage, Confident, ReadAs, OneValue
 use Rattle.demands.proofs.StoredBytes.{summary-bytes}
 use Rattle.demands.proofs.KeyedSectors.{all-same, sector-keyed}
 use Rattle.demands.proofs.SoundPages.{page-sure, page-lenient}
-
--- a byte of a sector, of a page or of its shifted bytes
-part-at : (l : List ℕ) (s i : ℕ) → i < sectorEnd s - s * 512 → byteAt (part s l) i ≡ byteAt l (s * 512 + i)
-unfolding part
-part-at l s i h = getD-take (sectorEnd s - s * 512) (drop (s * 512) l) i 0 h ∙ getD-drop (s * 512) l i 0
 
 module _ (number : ℕ) (stored : List ℕ) (bv : ℕ) (whole : length stored ≡ 4096) where
   -- ---- a page that was written with bv
@@ -138,11 +132,11 @@ module _
         (confident number stored bv (sound .whole) one))
         m v
 
-    module _ (few : candidateNumber shifted ≤ 8) (sole : SoleVerified (o .«search_limit») shifted anchors (rowCount stored) (o .«min_trailer_count») bv) where
+    module _ (sole : SoleVerified (o .«search_limit») shifted anchors (rowCount stored) (o .«min_trailer_count») bv) where
       taken : ByRowCount number shifted anchors (rowCount stored) o c × (c .bv ≡ bv)
       taken =
           choice-means .made number shifted anchors (rowCount stored) o .row-count
-          (record { long = summary-length number stored (sound .whole); within = within; bytes = summary-bytes number stored (sound .whole); few = few }) bv sole
+          (record { long = summary-length number stored (sound .whole); within = within; bytes = summary-bytes number stored (sound .whole) }) bv sole
 
       marked : Marked c answer.Accepted source.TrailerRowCount confidence.Verified warning.Nothing
       marked = taken .0 .marked
@@ -164,6 +158,6 @@ accepts =
     record {
       keyed = one-value;
       exact = read-exact;
-      verified = λ number stored anchors o bv sound within sure few sole. read-verified number stored anchors o bv sound within few sole sure;
-      let-through = λ number stored anchors o bv sound within l few sole. read-let-through number stored anchors o bv sound within few sole l;
+      verified = λ number stored anchors o bv sound within sure sole. read-verified number stored anchors o bv sound within sole sure;
+      let-through = λ number stored anchors o bv sound within l sole. read-let-through number stored anchors o bv sound within sole l;
     }

@@ -1,11 +1,11 @@
 -- The lines of the answers that the rules can give, in any table that has them; and what a refusal has beside its answer. Assumes nothing.
-use Prim.Native.Nat.{ℕ, _≤_}
+use Prim.Native.Nat.{ℕ}
 use mathlib.Core.Path.{_≡_, refl, sym, ap, _∙_}
 use mathlib.Core.Bool.{Bool, true, false, _&&_}
 use mathlib.Core.List.{List, [], _∷_}
 use native.Mathlib.Omega.{arith}
-use borrow.Author.Tests.{ltb-false}
-use lib.Dec.{eqb, ltb, leb}
+use borrow.Author.Tests.{eqb-true}
+use lib.Dec.{eqb, leb}
 use lib.ListN.{length}
 use Rattle.lists.specs.Cases.{pick}
 use Rattle.lists.proofs.Picks.{pick-case, never-both}
@@ -33,7 +33,7 @@ use Rattle.groups.specs.declared.Group.{Group}
 use Rattle.groups.specs.declared.Group.the-variants.{Verified, Voted, Rivals, Contest}
 use Rattle.groups.specs.Groups.{firstOf, group, bvsOf}
 use Rattle.answers.specs.Settings.{keystream, limitFits}
-use Rattle.choice.specs.Rules.{takenOf, refusedOf, ambiguousOf, unverifiedOf, topCandidate, isCorroborated, ruleFour, ruleThree, isCalibrated, ruleTwo, soleOf, ruleOne, chosen, choiceOf}
+use Rattle.choice.specs.Rules.{takenOf, refusedOf, ambiguousOf, unverifiedOf, topCandidate, isCorroborated, ruleFour, ruleThree, isCalibrated, ruleTwo, soleOf, ruleOne, choiceOf}
 use Rattle.choice.specs.Supplied.{suppliedWith, suppliedBy, suppliedOf}
 use Rattle.verdict.specs.declared.Decoding.{Decoding}
 use Rattle.verdict.specs.Verdict.{refusal, unallocatedOf, settledOf}
@@ -151,27 +151,22 @@ module _ (lines : List Line) (number : ℕ) (shifted anchors : List ℕ) (n : �
       → (eqb (length shifted) 4080 ≡ false → Has lines 2 (length shifted ∷ []))
       → Has lines 5 (number ∷ [])
       → Has lines 6 (number ∷ topOf (countsOf shifted) ∷ [])
-      → Has lines 15 (number ∷ [])
       → (limitFits (o .«search_limit») ≡ false → Has lines 20 (o .«search_limit» ∷ []))
       → Chooses lines (choiceOf number shifted anchors n o)
-  unfolding choiceOf chosen
-  choice-gives zero two five six fifteen twenty =
+  unfolding choiceOf
+  choice-gives zero two five six twenty =
       let lim : ℕ = o .«search_limit» in
       let a : Assessment = assessmentOf lim shifted anchors n (o .«min_trailer_count») in
-      let full : Choice = refusedOf (answer.TooManyCandidates number) noBvs in
       let out : Choice = refusedOf (answer.LimitOutOfRange lim) noBvs in
-      pick-case (Chooses lines) (eqb (length shifted) 4080) (pick (limitFits lim) (chosen number (keystream o) a) out)
+      pick-case (Chooses lines) (eqb (length shifted) 4080) (pick (limitFits lim) (ruleOne number (keystream o) a) out)
       (refusedOf (answer.WrongBufferLength (length shifted)) noBvs)
       (λ e.
-      pick-case (Chooses lines) (limitFits lim) (chosen number (keystream o) a) out
+      pick-case (Chooses lines) (limitFits lim) (ruleOne number (keystream o) a) out
       (λ w.
-      pick-case (Chooses lines) (ltb 8 (a .candidates .len)) full (ruleOne number (keystream o) a)
-      (λ f. chooses-refused lines (answer.TooManyCandidates number) fifteen)
-      (λ f.
-      let few : a .candidates .len ≤ 8 = ltb-false 8 (a .candidates .len) f in
-      let top : topCandidate a .bv ≡ topOf (countsOf shifted) = top-bv lim shifted anchors n (o .«min_trailer_count») few in
-      on-one lines number (keystream o) a (λ g. group-ascends lim shifted anchors n (o .«min_trailer_count») g few) zero five
-      (six ∙ ap (λ (v : ℕ). (number ∷ v ∷ []) ∷ []) (sym top))))
+      let long : length shifted ≡ 4080 = eqb-true (length shifted) 4080 e in
+      let top : topCandidate a .bv ≡ topOf (countsOf shifted) = top-bv lim shifted anchors n (o .«min_trailer_count») long in
+      on-one lines number (keystream o) a (λ g. group-ascends lim shifted anchors n (o .«min_trailer_count») g long) zero five
+      (six ∙ ap (λ (v : ℕ). (number ∷ v ∷ []) ∷ []) (sym top)))
       (λ w. chooses-refused lines (answer.LimitOutOfRange lim) (twenty w)))
       (λ e. chooses-refused lines (answer.WrongBufferLength (length shifted)) (two e))
 

@@ -67,7 +67,6 @@ number-small (answer.AmbiguousSlotDirectory page) = omega arith
 number-small (answer.SlotOffsetInDirectory page offset end) = omega arith
 number-small (answer.BadMagic magic) = omega arith
 number-small (answer.BadReplacement sector) = omega arith
-number-small (answer.TooManyCandidates page) = omega arith
 number-small (answer.NoSuchRow row) = omega arith
 number-small answer.MalformedLine = omega arith
 number-small (answer.LimitOutOfRange limit) = omega arith

@@ -18,7 +18,7 @@ use Rattle.answers.specs.declared.kinds.Bvs.{Bvs}
 use Rattle.votes.specs.Votes.{countsOf, ballots, isCandidate, candidateOf, candidatesBelow, listed, assessmentOf}
 use Rattle.votes.specs.declared.Candidate.{Candidate}
 use Rattle.votes.specs.declared.Assessment.{Assessment}
-use Rattle.votes.proofs.CandidateTable.{tabled-listed}
+use Rattle.votes.proofs.Eight.{table-whole}
 use Rattle.groups.specs.declared.Group.{Group}
 use Rattle.groups.specs.Groups.{belongs, group, andBv, bvsOf}
 use Rattle.demands.specs.Demand1.{Ascending}
@@ -117,10 +117,10 @@ module _ (lim : ℕ) (shifted anchors : List ℕ) (n t : ℕ) where
   abbrev a : Assessment
   a = assessmentOf lim shifted anchors n t
 
-  pub group-ascends : (g : Group) → a .candidates .len ≤ 8 → Ascending (bvsOf (group g a))
+  pub group-ascends : (g : Group) → length shifted ≡ 4080 → Ascending (bvsOf (group g a))
   unfolding assessmentOf bvsOf
-  group-ascends g few =
-      let all : listed (a .candidates) ≡ candidatesBelow lim shifted anchors n t 256 = tabled-listed (candidatesBelow lim shifted anchors n t 256) few in
+  group-ascends g long =
+      let all : listed (a .candidates) ≡ candidatesBelow lim shifted anchors n t 256 = table-whole shifted long lim anchors n t in
       let r : Rise 0 256 (group g a) = rise-keep (belongs g) 0 256 _ (subst (Rise 0 256) (sym all) (rise-below 256)) in
       let none : Holds 0 noBvs = record { room = refl; below = λ i q. absurd (omega arith); rising = λ i j q p. absurd (omega arith) } in
       record { rising = holds-all 0 256 (group g a) noBvs r none .rising }

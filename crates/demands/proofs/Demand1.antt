@@ -254,7 +254,7 @@ choice-holds :
     → Chooses (choiceLines (o .«search_limit») number shifted) (choiceOf number shifted anchors n o)
 unfolding valuesAt
 choice-holds number shifted anchors n o =
-    choice-gives (choiceLines (o .«search_limit») number shifted) number shifted anchors n o refl (λ e. refl) refl refl refl (λ f. refl)
+    choice-gives (choiceLines (o .«search_limit») number shifted) number shifted anchors n o refl (λ e. refl) refl refl (λ f. refl)
 
 support-holds :
     (number bv : ℕ) (shifted : List ℕ) (n : ℕ) (o : Options)
@@ -277,7 +277,7 @@ module _ (number : ℕ) (x : Answer) (n : ℕ) (fits : List Fit) (shifted anchor
   unfolding valuesAt
   settled-gives ws =
       gives-settled lines number (keystream o) (refitOf fits shifted) ruled ws
-      (choice-gives lines number shifted anchors n o refl (λ e. refl) refl refl refl (λ f. refl)) refl
+      (choice-gives lines number shifted anchors n o refl (λ e. refl) refl refl (λ f. refl)) refl
 
   verdict-one : integrityRefuses x o ≡ false → OneOf lines (judged .choice .answer)
   verdict-one e =
@@ -321,11 +321,10 @@ module _ (number : ℕ) (stored : List ℕ) (fits : List Fit) (shifted anchors :
       → Has lines 5 (number ∷ [])
       → Has lines 6 (number ∷ topOf (countsOf shifted) ∷ [])
       → Has lines 7 (weakValues number (refitOf fits shifted))
-      → Has lines 15 (number ∷ [])
       → (limitFits (o .«search_limit») ≡ false → Has lines 20 (o .«search_limit» ∷ []))
       → Gives lines (decodingOf number stored fits shifted anchors o m)
   unfolding decodingOf verdictOf
-  decoding-gives lines zero one two three four five six seven fifteen twenty =
+  decoding-gives lines zero one two three four five six seven twenty =
       let x : Answer = integrityOf number stored in
       gives-checked lines stored shifted m (o .«search_limit») (verdictOf number stored fits shifted anchors o)
       (λ k f.
@@ -333,13 +332,13 @@ module _ (number : ℕ) (stored : List ℕ) (fits : List Fit) (shifted anchors :
       (λ r q. gives-refusal lines x (integrity-one lines number stored zero one three four .is))
       (λ r ws.
       gives-settled lines number (keystream o) (refitOf fits shifted) (choiceOf number shifted anchors (rowCount stored) o) ws
-      (choice-gives lines number shifted anchors (rowCount stored) o zero (no-two lines (length shifted) k) five six fifteen twenty) seven))
+      (choice-gives lines number shifted anchors (rowCount stored) o zero (no-two lines (length shifted) k) five six twenty) seven))
       zero one two twenty
 
   decoding-holds : Gives (decodingLines (o .«search_limit») number stored fits shifted m) (decodingOf number stored fits shifted anchors o m)
   unfolding valuesAt
   decoding-holds =
-      decoding-gives (decodingLines (o .«search_limit») number stored fits shifted m) refl (λ e. refl) (λ e. refl) refl refl refl refl refl refl (λ f. refl)
+      decoding-gives (decodingLines (o .«search_limit») number stored fits shifted m) refl (λ e. refl) (λ e. refl) refl refl refl refl refl (λ f. refl)
 
   decoding-quiet :
       isAccepted (decodingOf number stored fits shifted anchors o m .choice .answer) ≡ false

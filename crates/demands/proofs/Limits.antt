@@ -151,7 +151,7 @@ module _ (number : ℕ) (shifted : List ℕ) (n : ℕ) (o : Options) (good : lim
   choice-in anchors =
       let lines : List Line = choiceWithin number shifted in
       no-twenty lines (choiceOf number shifted anchors n o .answer) refl
-      (choice-gives lines number shifted anchors n o refl (λ e. refl) refl refl refl (λ f. absurd (never-both f good)) .is)
+      (choice-gives lines number shifted anchors n o refl (λ e. refl) refl refl (λ f. absurd (never-both f good)) .is)
 
   support-in : (bv : ℕ) → OtherThanLimit (suppliedOf number bv shifted n o .answer)
   unfolding valuesAt
@@ -166,7 +166,7 @@ module _ (number : ℕ) (stored : List ℕ) (fits : List Fit) (shifted : List �
   decoding-in anchors =
       let lines : List Line = decodingWithin number stored fits shifted m in
       no-twenty lines (decodingOf number stored fits shifted anchors o m .choice .answer) refl
-      (decoding-gives number stored fits shifted anchors o m lines refl (λ e. refl) (λ e. refl) refl refl refl refl refl refl (λ f. absurd (never-both f good)) .is)
+      (decoding-gives number stored fits shifted anchors o m lines refl (λ e. refl) (λ e. refl) refl refl refl refl refl (λ f. absurd (never-both f good)) .is)
 
   supplied-in : (bv : ℕ) → OtherThanLimit (suppliedDecodingOf number bv stored fits shifted o m .choice .answer)
   unfolding valuesAt

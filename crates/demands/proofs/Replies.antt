@@ -38,7 +38,7 @@ module _ (line : List ℕ) where
       let page : length (pageIn line) ≡ 4096 = page-whole e in
       let long : length (bytesOf (numberIn line) (pageIn line)) ≡ 4080 = summary-length (numberIn line) (pageIn line) page in
       decoding-gives (numberIn line) (pageIn line) (fitsOf (numberIn line) (pageIn line)) (bytesOf (numberIn line) (pageIn line)) _ _ 4096
-      (frameLines (limitIn line) (numberIn line) (pageIn line)) refl (λ n. absurd (n page)) (λ n. absurd (n refl long)) refl refl refl refl refl refl
+      (frameLines (limitIn line) (numberIn line) (pageIn line)) refl (λ n. absurd (n page)) (λ n. absurd (n refl long)) refl refl refl refl refl
       (λ f. refl)
 
   answer-one : OneOf (frameLines (limitIn line) (numberIn line) (pageIn line)) (answerTo line)

@@ -16,7 +16,7 @@ use Rattle.lists.proofs.Keep.{keep-among}
 use Rattle.votes.specs.Votes.{countsOf, ballots, topOf, isCommon, isCandidate, candidateOf, candidatesBelow, listed, assessmentOf}
 use Rattle.votes.specs.declared.Candidate.{Candidate}
 use Rattle.votes.specs.declared.Assessment.{Assessment}
-use Rattle.votes.proofs.CandidateTable.{tabled-listed}
+use Rattle.votes.proofs.Eight.{table-whole}
 use Rattle.votes.proofs.Keys.{keyAt, top-met}
 use Rattle.votes.proofs.Meaning.{top-byte, top-common}
 use Rattle.groups.specs.declared.Group.the-variants.{Only}
@@ -73,12 +73,12 @@ module _ (lim : ℕ) (shifted anchors : List ℕ) (n t : ℕ) where
   unfolding candidateOf
   top-has = refl
 
-  pub top-bv : a .candidates .len ≤ 8 → topCandidate a .bv ≡ topOf counts
+  pub top-bv : length shifted ≡ 4080 → topCandidate a .bv ≡ topOf counts
   unfolding assessmentOf candidatesBelow
-  top-bv few = go (ltb 0 (byteAt counts (topOf counts))) refl
+  top-bv long = go (ltb 0 (byteAt counts (topOf counts))) refl
     where
       all : listed (a .candidates) ≡ candidatesBelow lim shifted anchors n t 256
-      all = tabled-listed (candidatesBelow lim shifted anchors n t 256) few
+      all = table-whole shifted long lim anchors n t
 
       go : (b : Bool) → ltb 0 (byteAt counts (topOf counts)) ≡ b → topCandidate a .bv ≡ topOf counts
       go true e =

@@ -1,5 +1,5 @@
 -- WHAT IS ACCEPTED: written pages that are sure to be read, with the bv, the source and the confidence that they get. Assumes nothing.
-use Prim.Native.Nat.{ℕ, _+_, _-_, _*_, _%_, _≤_, _<_}
+use Prim.Native.Nat.{ℕ, _+_, _-_, _*_, _%_, _<_}
 use mathlib.Core.Path.{_≡_}
 use mathlib.Core.Bool.{true, false}
 use mathlib.Core.List.{List}
@@ -21,7 +21,7 @@ use Rattle.sector.specs.declared.fits.Fit.{Fit}
 use Rattle.page.specs.Trailer.{rowCount}
 use Rattle.page.specs.Integrity.{isUnallocated, integrityOf}
 use Rattle.summary.specs.Page.{sectorEnd, fitsOf, bytesOf}
-use Rattle.meanings.specs.Sources.{candidateNumber, SoleVerified}
+use Rattle.meanings.specs.Sources.{SoleVerified}
 use Rattle.verdict.specs.declared.Decoding.{Decoding}
 use Rattle.verdict.specs.Sectors.{entry, sectorWarnings}
 use Rattle.demands.specs.Demand2.{readPage}
@@ -76,7 +76,6 @@ pub record Accepts : Type 0 where
       → GoodPage number stored
       → limitFits (o .«search_limit») ≡ true
       → Confident (fitsOf number stored)
-      → candidateNumber (bytesOf number stored) ≤ 8
       → SoleVerified (o .«search_limit») (bytesOf number stored) anchors (rowCount stored) (o .«min_trailer_count») bv
       → ReadAs (readPage number stored anchors o 4096) bv source.TrailerRowCount confidence.Verified noWarnings
   -- the same under KEYSTREAM, with a warning for each sector that is not confident
@@ -85,7 +84,6 @@ pub record Accepts : Type 0 where
       → GoodPage number stored
       → limitFits (o .«search_limit») ≡ true
       → keystream o ≡ true
-      → candidateNumber (bytesOf number stored) ≤ 8
       → SoleVerified (o .«search_limit») (bytesOf number stored) anchors (rowCount stored) (o .«min_trailer_count») bv
       → ReadAs (readPage number stored anchors o 4096) bv source.TrailerRowCount confidence.Verified
       (sectorWarnings number (fitsOf number stored) noWarnings 8)

@@ -52,7 +52,6 @@ frameLines lim number stored =
     ∷ 5 returns (number ∷ [])
     ∷ 6 returns (number ∷ topOf (countsOf (bytesOf number stored)) ∷ [])
     ∷ 7 returns weakValues number (refitOf (fitsOf number stored) (bytesOf number stored))
-    ∷ 15 returns (number ∷ [])
     ∷ 17 returns []
     ∷ 20 returns (lim ∷ [])
     ∷ []

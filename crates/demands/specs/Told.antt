@@ -120,7 +120,7 @@ parseLines lim number plain = orLimit lim (parseWithin lim number plain)
 abbrev pub rowLines : ℕ → ℕ → List ℕ → ℕ → List Line
 rowLines lim number plain r = parseLines lim number plain ++ (16 returns (r ∷ []) ∷ [])
 
--- ---- choices, for the shifted bytes. "5: page, candidates", which stand beside it; "6: page, bv"; "15: page"
+-- ---- choices, for the shifted bytes. "5: page, candidates", which stand beside it; "6: page, bv"
 
 abbrev pub choiceWithin : ℕ → List ℕ → List Line
 choiceWithin number shifted =
@@ -128,7 +128,6 @@ choiceWithin number shifted =
     ∷ 2 returns (length shifted ∷ [])
     ∷ 5 returns (number ∷ [])
     ∷ 6 returns (number ∷ topOf (countsOf shifted) ∷ [])
-    ∷ 15 returns (number ∷ [])
     ∷ []
 
 abbrev pub choiceLines : ℕ → ℕ → List ℕ → List Line
@@ -164,7 +163,6 @@ decodingWithin number stored fits shifted m =
     ∷ 5 returns (number ∷ [])
     ∷ 6 returns (number ∷ topOf (countsOf shifted) ∷ [])
     ∷ 7 returns weakValues number (refitOf fits shifted)
-    ∷ 15 returns (number ∷ [])
     ∷ [])
 
 abbrev pub decodingLines : ℕ → ℕ → List ℕ → List Fit → List ℕ → ℕ → List Line

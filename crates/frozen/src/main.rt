@@ -9,7 +9,6 @@
 //
 // An answer is a line: the layout of include/lumeviqo.h in hexadecimal, then the CRC-32 of each buffer that the function may write to.
 // stdin and stdout were made beside the original, by compare/driver/src/bin/freeze.rs; the program needs no original.
-use answers::Answer;
 use layout::SCAN_SIZE;
 use libc::STDIN_FILENO;
 use libc::STDOUT_FILENO;
@@ -141,8 +140,7 @@ fn answer(asked: u8, q: Question, page: &mut [u8], anchors: &[u8], bytes: &[u8])
         11 => row_count(q, page),
         12 => row(q, page),
         13 => rows(q, page),
-        14 => too_many(q.number),
-        15 => supplied_summary(q, page),
+        14 => supplied_summary(q, page),
         _ => text(b"?"),
     }
 }
@@ -323,13 +321,6 @@ fn row(q: Question, plain: &[u8]) {
 fn rows(q: Question, plain: &[u8]) {
     let mut answer = answer_room();
     let n = lumeviqo::lumeviqo_rows(q.number, plain, q.leniency, q.limit, &mut answer);
-    tell(&answer, n);
-}
-
-// No page has more than eight candidates: what that answer would look like.
-fn too_many(number: u64) {
-    let mut answer = answer_room();
-    let n = layout::write_integrity(&mut answer, Answer::TooManyCandidates(number));
     tell(&answer, n);
 }
 

@@ -16,8 +16,9 @@ use Rattle.lists.proofs.Picks.{pick-gt}
 use Rattle.answers.specs.Answers.{noBvs, withBv}
 use Rattle.answers.specs.declared.kinds.Bvs.{Bvs}
 use Rattle.votes.specs.Votes.{candidateOf}
+use Rattle.votes.specs.Eight.{valuesOf}
 use Rattle.votes.specs.declared.Candidate.{Candidate}
-use Rattle.votes.proofs.Meaning.{Rises, among-rises, among-has, map-among, valuesOf}
+use Rattle.votes.proofs.Meaning.{Rises, among-rises, among-has, map-among}
 use Rattle.groups.specs.Groups.{andBv, bvsOf}
 use Rattle.meanings.specs.Sources.{listOf, Lists}
 use Rattle.meanings.proofs.Standing.{made}

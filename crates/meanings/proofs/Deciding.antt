@@ -10,12 +10,13 @@ use lib.Dec.{eqb, ltb}
 use Rattle.lists.specs.Bytes.{plainOf}
 use Rattle.lists.specs.Counts.{isIn}
 use Rattle.lists.proofs.Booleans.{and-yes, and-left, and-right, and-not-both}
+use Rattle.lists.proofs.Many.{many-zero}
 use Rattle.lists.proofs.Picks.{never-both}
 use Rattle.slots.specs.Slots.{rowCountMatches}
 use Rattle.votes.specs.Votes.{isVerified}
 use Rattle.meanings.specs.Values.{isExact, exactSectors, votesFor, standsFor}
 use Rattle.meanings.specs.Sources.{Other, verifiedNumber, NoneVerified, topValue, isStrong, isDisputed, disputedNumber, SoleVerified}
-use Rattle.meanings.proofs.Passing.{some-pass, all-fail, all-equal, First, first-passes}
+use Rattle.meanings.proofs.Passing.{some-pass, all-equal, First, first-passes}
 use Rattle.meanings.proofs.Voting.{votes-apart}
 use Rattle.meanings.proofs.Outcomes.{disputed-one, disputed-voted, disputed-stands}
 
@@ -32,7 +33,7 @@ module _ (lim : ℕ) (shifted anchors : List ℕ) (n t : ℕ) where
   pub none-number : NoneVerified lim shifted n t → verifiedNumber lim shifted n t ≡ 0
   unfolding verifiedNumber
   none-number q =
-      all-fail standsTested 256
+      many-zero standsTested 256
       (λ v h. and-not-both (standsFor shifted v) (tested v) (λ s e. never-both (q .none v (record { byte = h; candidate = s })) e))
 
   -- ---- one is verified, and has no rival

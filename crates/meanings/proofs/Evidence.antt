@@ -126,10 +126,10 @@ module _ (lim : ℕ) (shifted anchors : List ℕ) (n t bv : ℕ) (b : AllBytes s
         differs = λ q. never-both (ap not (eq-eqb v bv q)) (and-right (standsFor shifted v) (not (eqb v bv)) e);
       }
 
-  module _ (few : a .candidates .len ≤ 8) where
+  module _ (long : length shifted ≡ 4080) where
     most : Most isOther at 256 best
     most =
-        subst (λ (l : List Candidate). Most isOther at 256 (mostOf l)) (sym (group-values lim shifted anchors n t few (Others bv)))
+        subst (λ (l : List Candidate). Most isOther at 256 (mostOf l)) (sym (group-values lim shifted anchors n t long (Others bv)))
         (most-among isOther at 256)
 
     leads : LeadsBy shifted bv (zerosWith shifted bv - best)
@@ -267,5 +267,5 @@ evidenced =
           let c : Choice = choiceOf number shifted anchors n o in
           let w : Chosen lim shifted anchors n t c = chosen-stands number shifted anchors n o b good in
           subst (EvidenceTold (Supports lim shifted anchors n t (c .bv))) (sym (w .grounds ∙ listed-told lim shifted anchors n t (c .bv) (w .byte) b))
-          (told lim shifted anchors n t (c .bv) _ (leads lim shifted anchors n t (c .bv) b (w .few)));
+          (told lim shifted anchors n t (c .bv) _ (leads lim shifted anchors n t (c .bv) b (w .long)));
     }

@@ -5,7 +5,7 @@ use mathlib.Core.Bool.{Bool, true, false, not, _&&_, _||_}
 use mathlib.Core.List.{List}
 use native.Mathlib.Decide.{ℕ-discrete}
 use native.Mathlib.Omega.{arith}
-use borrow.Author.Tests.{eq-eqb, ne-eqb, le-leb, lt-leb, lt-ltb, le-ltb, eqb-true, eqb-false, leb-true, leb-false, ltb-true, ltb-false}
+use borrow.Author.Tests.{eq-eqb, ne-eqb, le-leb, lt-leb, lt-ltb, le-ltb, eqb-true, eqb-false, leb-true, leb-false, ltb-true}
 use lib.Dec.{eqb, ltb, leb}
 use lib.ListN.{length}
 use Rattle.lists.specs.Cases.{pick}
@@ -14,6 +14,7 @@ use Rattle.lists.specs.Counts.{howMany, isIn}
 use Rattle.lists.specs.Pieces.{among, keep}
 use Rattle.lists.proofs.Among.{among-length}
 use Rattle.lists.proofs.Booleans.{not-true, and-yes, and-left, and-right, or-no-left, or-no-right, or-yes-right}
+use Rattle.lists.proofs.Many.{many-zero, many-weaker}
 use Rattle.lists.proofs.Picks.{pick-case, never-both}
 use Rattle.answers.specs.Answers.{noBvs}
 use Rattle.answers.specs.Settings.{keystream, limitFits}
@@ -26,20 +27,21 @@ use Rattle.slots.specs.Slots.{rowCountMatches}
 use Rattle.votes.specs.Votes.{countsOf, ballots, topOf, isVerified, candidateOf, blankCandidate, assessmentOf}
 use Rattle.votes.specs.declared.Candidate.{Candidate}
 use Rattle.votes.specs.declared.Assessment.{Assessment}
+use Rattle.votes.proofs.Eight.{few-candidates}
 use Rattle.votes.proofs.Meaning.{top-byte, top-candidate}
 use Rattle.votes.proofs.Tests.{lt-cases}
 use Rattle.groups.specs.declared.Group.the-variants.{Verified, Voted, Only, Others, Rivals, Contest, Supported}
 use Rattle.groups.specs.Groups.{firstOf, belongs, members, group, highestOf, bvsOf}
 use Rattle.choice.specs.declared.Choice.{Choice}
 use Rattle.choice.specs.Rules.{takenOf, refusedOf, ambiguousOf, unverifiedOf, topCandidate, isCorroborated, isCalibrated}
-use Rattle.choice.specs.Rules.{ruleThree, ruleTwo, soleOf, ruleOne, chosen, choiceOf}
+use Rattle.choice.specs.Rules.{ruleThree, ruleTwo, soleOf, ruleOne, choiceOf}
 use Rattle.meanings.specs.Values.{exactSectors, votesFor, standsFor}
-use Rattle.meanings.specs.Sources.{Stands, Other, candidateNumber, verifiedNumber, NoneVerified, isStrong, isDisputed, disputedNumber}
+use Rattle.meanings.specs.Sources.{Stands, Other, verifiedNumber, NoneVerified, isStrong, isDisputed, disputedNumber}
 use Rattle.meanings.specs.Sources.{comesBefore, Lists, Corroborates, Meaning}
 use Rattle.meanings.proofs.Values.{ballots-number}
-use Rattle.meanings.proofs.Passing.{some-pass, none-pass, all-fail, only-one, both-pass, wider-pass, among-ext, kept-among, First, first-passes}
+use Rattle.meanings.proofs.Passing.{some-pass, none-pass, only-one, both-pass, among-ext, kept-among, First, first-passes}
 use Rattle.meanings.proofs.Voting.{voted-stands, vote-alone, none-exact, all-agree, votes-apart}
-use Rattle.meanings.proofs.Standing.{made, assessment, group-as, candidates-few, many-candidates}
+use Rattle.meanings.proofs.Standing.{made, assessment, group-as}
 use Rattle.meanings.proofs.Standing.{made-bv, made-verified, made-votes, made-voted, made-rival, made-contest, made-supported, made-outranks}
 use Rattle.meanings.proofs.BvTable.{group-lists}
 use Rattle.meanings.proofs.Ranking.{above-most, Highest, highest-passes}
@@ -71,8 +73,7 @@ module _ (lim : ℕ) (shifted anchors : List ℕ) (n t v : ℕ) where
   disputed-stands h = and-left (standsFor shifted v) _ h
 
 module _ (number : ℕ) (shifted anchors : List ℕ) (n : ℕ) (o : Options) (long : length shifted ≡ 4080) (bytes : AllBytes shifted)
-    (within : limitFits (o .«search_limit») ≡ true)
-    (few : assessment (o .«search_limit») shifted anchors n (o .«min_trailer_count») .candidates .len ≤ 8) where
+    (within : limitFits (o .«search_limit») ≡ true) where
   abbrev t : ℕ
   t = o .«min_trailer_count»
 
@@ -94,17 +95,17 @@ module _ (number : ℕ) (shifted anchors : List ℕ) (n : ℕ) (o : Options) (lo
   -- ---- a dispute
 
   disputed-few : howMany inDispute 256 ≤ 8
-  unfolding candidateNumber
+  unfolding standsFor
   disputed-few =
       omega (
         arith,
-        wider-pass inDispute (standsFor shifted) 256 (λ v h e. disputed-stands lim shifted anchors n t v e),
-        candidates-few lim shifted anchors n t few,
+        many-weaker inDispute (standsFor shifted) 256 (λ v h e. disputed-stands lim shifted anchors n t v e),
+        few-candidates shifted long,
       )
 
   others-few : (m : ℕ) → howMany (λ v. inDispute v && not (eqb v m)) 256 ≤ 8
   others-few m =
-      omega (arith, wider-pass (λ v. inDispute v && not (eqb v m)) inDispute 256 (λ v h e. and-left (inDispute v) (not (eqb v m)) e), disputed-few)
+      omega (arith, many-weaker (λ v. inDispute v && not (eqb v m)) inDispute 256 (λ v h e. and-left (inDispute v) (not (eqb v m)) e), disputed-few)
 
   before-most : (v w : ℕ) → comesBefore lim shifted anchors n t v w ≡ true → votesFor shifted w ≤ votesFor shifted v
   unfolding comesBefore
@@ -183,7 +184,7 @@ module _ (number : ℕ) (shifted anchors : List ℕ) (n : ℕ) (o : Options) (lo
   unfolding assessmentOf candidateOf
   top-made =
       let p : ℕ → Bool = λ v. standsFor shifted v && eqb v top in
-      let e : group (Only (a .top)) a ≡ among p make 256 = group-as lim shifted anchors n t few (Only top) p (λ v h. refl) in
+      let e : group (Only (a .top)) a ≡ among p make 256 = group-as lim shifted anchors n t long (Only top) p (λ v h. refl) in
       let r : First make p blankCandidate 256 =
       first-passes make p blankCandidate 256
       (some-pass p 256 top (top-stands .byte) (and-yes (standsFor shifted top) (eqb top top) (top-stands .candidate) (eq-eqb top top refl))) in
@@ -194,7 +195,7 @@ module _ (number : ℕ) (shifted anchors : List ℕ) (n : ℕ) (o : Options) (lo
 
   supported : group (Supported top) a ≡ among backed make 256
   supported =
-      group-as lim shifted anchors n t few (Supported top) backed
+      group-as lim shifted anchors n t long (Supported top) backed
       (λ v h. ap (λ (b : Bool). standsFor shifted v && b) (made-supported lim shifted anchors n t v h top))
 
   support-number : length (group (Supported top) a) ≡ howMany backed 256
@@ -225,7 +226,7 @@ module _ (number : ℕ) (shifted anchors : List ℕ) (n : ℕ) (o : Options) (lo
   unfolding isCorroborated candidateOf assessmentOf
   corroborates-is q =
       let fails : (v : ℕ) → v < 256 → backed v ≡ false = λ v h. unsupported v h (ℕ-discrete v top) (standsFor shifted v) refl in
-      let none : length (group (Supported top) a) ≡ 0 = support-number ∙ all-fail backed 256 fails in
+      let none : length (group (Supported top) a) ≡ 0 = support-number ∙ many-zero backed 256 fails in
       and-yes (eqb (length (ballots shifted)) 1) _ (eq-eqb (length (ballots shifted)) 1 (ballots-number shifted ∙ q .one))
       (and-yes (eqb (make top .votes) 1) _ (eq-eqb (make top .votes) 1 (made-votes lim shifted anchors n t top (top-stands .byte) ∙ q .vote))
       (and-yes (isIn top anchors) _ (q .anchored) (eq-eqb (length (group (Supported top) a)) 0 none)))
@@ -302,7 +303,7 @@ module _ (number : ℕ) (shifted anchors : List ℕ) (n : ℕ) (o : Options) (lo
 
     voted : group Voted a ≡ among inDispute make 256
     voted =
-        group-as lim shifted anchors n t few Voted inDispute
+        group-as lim shifted anchors n t long Voted inDispute
         (λ v h.
         ap (λ (b : Bool). standsFor shifted v && b) (made-voted lim shifted anchors n t v h) ∙ sym (disputed-voted lim shifted anchors n t v zero))
 
@@ -398,7 +399,7 @@ module _ (number : ℕ) (shifted anchors : List ℕ) (n : ℕ) (o : Options) (lo
 
   verified : group Verified a ≡ among standsTested make 256
   verified =
-      group-as lim shifted anchors n t few Verified standsTested (λ v h. ap (λ (b : Bool). standsFor shifted v && b) (made-verified lim shifted anchors n t v))
+      group-as lim shifted anchors n t long Verified standsTested (λ v h. ap (λ (b : Bool). standsFor shifted v && b) (made-verified lim shifted anchors n t v))
 
   verified-count : length (group Verified a) ≡ verifiedNumber lim shifted n t
   unfolding verifiedNumber
@@ -426,7 +427,7 @@ module _ (number : ℕ) (shifted anchors : List ℕ) (n : ℕ) (o : Options) (lo
 
     rivals : group (Rivals k (a .top)) a ≡ among rival make 256
     rivals =
-        group-as lim shifted anchors n t few (Rivals k (a .top)) rival
+        group-as lim shifted anchors n t long (Rivals k (a .top)) rival
         (λ v h. ap (λ (b : Bool). standsFor shifted v && b) (made-rival lim shifted anchors n t v h k))
 
     rivals-number : length (group (Rivals k (a .top)) a) ≡ howMany rival 256
@@ -447,7 +448,7 @@ module _ (number : ℕ) (shifted anchors : List ℕ) (n : ℕ) (o : Options) (lo
 
     contest : group (Contest k (a .top)) a ≡ among inDispute make 256
     contest =
-        group-as lim shifted anchors n t few (Contest k (a .top)) inDispute
+        group-as lim shifted anchors n t long (Contest k (a .top)) inDispute
         (λ v h.
         ap (λ (b : Bool). standsFor shifted v && b) (made-contest lim shifted anchors n t v h k)
         ∙ contest-same v h (ℕ-discrete v k) (standsFor shifted v) refl
@@ -538,28 +539,16 @@ pub every-choice :
     (number : ℕ) (shifted anchors : List ℕ) (n : ℕ) (o : Options)
     → AllBytes shifted
     → Meaning number shifted anchors n o (choiceOf number shifted anchors n o)
-unfolding choiceOf chosen refusedOf
+unfolding choiceOf refusedOf
 every-choice number shifted anchors n o bytes =
     let lim : ℕ = o .«search_limit» in
     let a : Assessment = assessment lim shifted anchors n (o .«min_trailer_count») in
     pick-case (Meaning number shifted anchors n o) (eqb (length shifted) 4080)
-    (pick (limitFits lim) (chosen number (keystream o) a) (refusedOf (answer.LimitOutOfRange lim) noBvs))
+    (pick (limitFits lim) (ruleOne number (keystream o) a) (refusedOf (answer.LimitOutOfRange lim) noBvs))
     (refusedOf (answer.WrongBufferLength (length shifted)) noBvs)
     (λ e.
-    pick-case (Meaning number shifted anchors n o) (limitFits lim) (chosen number (keystream o) a) (refusedOf (answer.LimitOutOfRange lim) noBvs)
-    (λ w.
-    pick-case (Meaning number shifted anchors n o) (ltb 8 (a .candidates .len)) (refusedOf (answer.TooManyCandidates number) noBvs)
-    (ruleOne number (keystream o) a)
-    (λ f.
-    Meaning.too-many
-    (record {
-      marked = record { answered = refl; from = refl; trusted = refl; warned = refl };
-      unlisted = refl;
-      within = w;
-      many = many-candidates lim shifted anchors n (o .«min_trailer_count») (ltb-true 8 (a .candidates .len) f);
-    }))
-    (λ f.
-    on-one number shifted anchors n o (eqb-true (length shifted) 4080 e) bytes w (ltb-false 8 (a .candidates .len) f)))
+    pick-case (Meaning number shifted anchors n o) (limitFits lim) (ruleOne number (keystream o) a) (refusedOf (answer.LimitOutOfRange lim) noBvs)
+    (λ w. on-one number shifted anchors n o (eqb-true (length shifted) 4080 e) bytes w)
     (λ w.
     Meaning.out-of-range
     (record {

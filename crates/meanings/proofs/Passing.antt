@@ -14,6 +14,7 @@ use Rattle.lists.specs.Pieces.{among, keep}
 use Rattle.lists.proofs.Among.{among-length}
 use Rattle.lists.proofs.Booleans.{not-true}
 use Rattle.lists.proofs.Keep.{keep-append}
+use Rattle.lists.proofs.Many.{many-zero}
 use Rattle.votes.proofs.Tests.{lt-cases}
 
 module _ (p : ℕ → Bool) where
@@ -26,11 +27,6 @@ module _ (p : ℕ → Bool) where
 
   pub none-pass : (n : ℕ) → howMany p n ≡ 0 → (k : ℕ) → k < n → p k ≡ false
   none-pass n e k h = not-true (p k) (λ t. omega (arith, some-pass n k h t))
-
-  pub all-fail : (n : ℕ) → ((k : ℕ) → k < n → p k ≡ false) → howMany p n ≡ 0
-  unfolding howMany
-  all-fail zero h = refl
-  all-fail (suc n) h = omega (arith, all-fail n (λ k l. h k (omega arith)), ap flag (h n (omega arith)))
 
   two-pass : (n j k : ℕ) → j < k → k < n → p j ≡ true → p k ≡ true → 2 ≤ howMany p n
   unfolding howMany
@@ -54,18 +50,8 @@ module _ (p : ℕ → Bool) where
     where
       go : (b : Bool) → p n ≡ b → howMany p n ≤ 1 → howMany p n + flag b ≤ 1
       go true e ih =
-          omega (arith, all-fail n (λ j l. not-true (p j) (λ t. omega (arith, h j n (omega arith) (omega arith) t e))))
+          omega (arith, many-zero p n (λ j l. not-true (p j) (λ t. omega (arith, h j n (omega arith) (omega arith) t e))))
       go false e ih = omega arith
-
--- as many pass a wider test, or more
-pub wider-pass : (p q : ℕ → Bool) (n : ℕ) → ((k : ℕ) → k < n → p k ≡ true → q k ≡ true) → howMany p n ≤ howMany q n
-unfolding howMany
-wider-pass p q zero h = zero-le
-wider-pass p q (suc n) h = go (wider-pass p q n (λ k l. h k (omega arith))) (p n) refl
-  where
-    go : howMany p n ≤ howMany q n → (b : Bool) → p n ≡ b → howMany p n + flag b ≤ howMany q n + flag (q n)
-    go ih true e = omega (arith, ih, ap flag (h n (omega arith) e))
-    go ih false e = omega (arith, ih)
 
 -- ---- those that pass, in a list
 

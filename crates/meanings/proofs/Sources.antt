@@ -1,5 +1,5 @@
--- What a choice says of its page, and what a page makes of its choice: from the ten that every choice is one of. Assumes nothing.
-use Prim.Native.Nat.{ℕ, _≤_, _<_}
+-- What a choice says of its page, and what a page makes of its choice: from the nine that every choice is one of. Assumes nothing.
+use Prim.Native.Nat.{ℕ, _≤_}
 use mathlib.Core.Path.{_≡_, refl, sym, ap, _∙_, subst}
 use mathlib.Core.Bool.{true, false}
 use mathlib.Core.List.{List}
@@ -19,18 +19,15 @@ use Rattle.answers.specs.declared.trust.Source.{Source}
 use Rattle.answers.specs.declared.trust.Source.the-variants as source
 use Rattle.answers.specs.declared.settings.Options.{Options}
 use Rattle.votes.specs.Votes.{isVerified}
-use Rattle.votes.specs.declared.Assessment.{Assessment}
-use Rattle.votes.proofs.Tests.{lt-cases}
 use Rattle.choice.specs.declared.Choice.{Choice}
 use Rattle.choice.specs.Rules.{refusedOf, choiceOf}
-use Rattle.choice.proofs.ChoiceCases.{chosen-many, choice-length, choice-limit, choice-is}
+use Rattle.choice.proofs.ChoiceCases.{choice-length, choice-limit}
 use Rattle.meanings.specs.Values.{isExact, standsFor}
-use Rattle.meanings.specs.Sources.{candidateNumber, verifiedNumber, NoneVerified, topValue, disputedNumber, SoleVerified, Agreed, Corroborates, Undecided}
-use Rattle.meanings.specs.Sources.{Asked, ByRowCount, ByExactSectors, ByCorroboration, ByRank, Ambiguous, ByTop, Unverified, TooMany, OutOfRange, WrongLength}
+use Rattle.meanings.specs.Sources.{verifiedNumber, NoneVerified, topValue, disputedNumber, SoleVerified, Agreed, Corroborates, Undecided}
+use Rattle.meanings.specs.Sources.{Asked, ByRowCount, ByExactSectors, ByCorroboration, ByRank, Ambiguous, ByTop, Unverified, OutOfRange, WrongLength}
 use Rattle.meanings.specs.Sources.{Meaning, Said, Made, ChoiceMeans}
 use Rattle.meanings.proofs.Passing.{First}
 use Rattle.meanings.proofs.Voting.{all-agree}
-use Rattle.meanings.proofs.Standing.{assessment, candidates-few}
 use Rattle.meanings.proofs.Outcomes.{every-choice}
 use Rattle.meanings.proofs.AllExact.{exact-asked, exact-agreed}
 use Rattle.meanings.proofs.Deciding.{none-number, sole-verified, sole-is, sole-number, sole-undisputed, one-undisputed, agreed-undisputed, exact-at}
@@ -59,7 +56,6 @@ module _ (number : ℕ) (shifted anchors : List ℕ) (n : ℕ) (o : Options) (c 
   by-source P (Meaning.topmost m) f g h i j k = j m
   by-source P (Meaning.ambiguous m) f g h i j k = k (m .marked .from)
   by-source P (Meaning.unverified m) f g h i j k = k (m .marked .from)
-  by-source P (Meaning.too-many m) f g h i j k = k (m .marked .from)
   by-source P (Meaning.out-of-range m) f g h i j k = k (m .marked .from)
   by-source P (Meaning.wrong-length m) f g h i j k = k (m .marked .from)
 
@@ -69,20 +65,18 @@ module _ (number : ℕ) (shifted anchors : List ℕ) (n : ℕ) (o : Options) (c 
       → (c .answer ≡ answer.Accepted → P)
       → (Ambiguous number shifted anchors n o c → P)
       → (Unverified number shifted anchors n o c → P)
-      → (TooMany number shifted anchors n o c → P)
       → (OutOfRange number shifted anchors n o c → P)
       → (WrongLength number shifted anchors n o c → P)
       → P
-  by-answer P (Meaning.row-count m) f g h i j k = f (m .marked .answered)
-  by-answer P (Meaning.exact-sectors m) f g h i j k = f (m .marked .answered)
-  by-answer P (Meaning.corroborated m) f g h i j k = f (m .marked .answered)
-  by-answer P (Meaning.ranked m) f g h i j k = f (m .marked .answered)
-  by-answer P (Meaning.topmost m) f g h i j k = f (m .marked .answered)
-  by-answer P (Meaning.ambiguous m) f g h i j k = g m
-  by-answer P (Meaning.unverified m) f g h i j k = h m
-  by-answer P (Meaning.too-many m) f g h i j k = i m
-  by-answer P (Meaning.out-of-range m) f g h i j k = j m
-  by-answer P (Meaning.wrong-length m) f g h i j k = k m
+  by-answer P (Meaning.row-count m) f g h i j = f (m .marked .answered)
+  by-answer P (Meaning.exact-sectors m) f g h i j = f (m .marked .answered)
+  by-answer P (Meaning.corroborated m) f g h i j = f (m .marked .answered)
+  by-answer P (Meaning.ranked m) f g h i j = f (m .marked .answered)
+  by-answer P (Meaning.topmost m) f g h i j = f (m .marked .answered)
+  by-answer P (Meaning.ambiguous m) f g h i j = g m
+  by-answer P (Meaning.unverified m) f g h i j = h m
+  by-answer P (Meaning.out-of-range m) f g h i j = i m
+  by-answer P (Meaning.wrong-length m) f g h i j = j m
 
   -- two sources, and two answers, have different numbers
   other-source : {P : Type 0} {s r : Source} → c .source ≡ s → c .source ≡ r → eqb (sourceNumber s) (sourceNumber r) ≡ false → P
@@ -129,19 +123,10 @@ module _ (number : ℕ) (shifted anchors : List ℕ) (n : ℕ) (o : Options) (c 
             by-answer (Ambiguous number shifted anchors n o c) m (λ q. other-answer q e refl) (λ q. q)
             (λ q. other-answer (q .marked .answered) e refl)
             (λ q. other-answer (q .marked .answered) e refl)
-            (λ q. other-answer (q .marked .answered) e refl)
             (λ q. other-answer (q .marked .answered) e refl);
         unverified =
             λ e.
             by-answer (Unverified number shifted anchors n o c) m (λ q. other-answer q e refl) (λ q. other-answer (q .marked .answered) e refl)
-            (λ q. q)
-            (λ q. other-answer (q .marked .answered) e refl)
-            (λ q. other-answer (q .marked .answered) e refl)
-            (λ q. other-answer (q .marked .answered) e refl);
-        too-many =
-            λ e.
-            by-answer (TooMany number shifted anchors n o c) m (λ q. other-answer q e refl) (λ q. other-answer (q .marked .answered) e refl)
-            (λ q. other-answer (q .marked .answered) e refl)
             (λ q. q)
             (λ q. other-answer (q .marked .answered) e refl)
             (λ q. other-answer (q .marked .answered) e refl);
@@ -149,13 +134,11 @@ module _ (number : ℕ) (shifted anchors : List ℕ) (n : ℕ) (o : Options) (c 
             λ e.
             by-answer (OutOfRange number shifted anchors n o c) m (λ q. other-answer q e refl) (λ q. other-answer (q .marked .answered) e refl)
             (λ q. other-answer (q .marked .answered) e refl)
-            (λ q. other-answer (q .marked .answered) e refl)
             (λ q. q)
             (λ q. other-answer (q .marked .answered) e refl);
         wrong-length =
             λ e.
             by-answer (WrongLength number shifted anchors n o c) m (λ q. other-answer q e refl) (λ q. other-answer (q .marked .answered) e refl)
-            (λ q. other-answer (q .marked .answered) e refl)
             (λ q. other-answer (q .marked .answered) e refl)
             (λ q. other-answer (q .marked .answered) e refl)
             (λ q. q);
@@ -206,7 +189,6 @@ module _ (number : ℕ) (shifted anchors : List ℕ) (n : ℕ) (o : Options) (c 
       go (Meaning.ambiguous r) = ambiguous r
       go (Meaning.unverified r) =
           unverified r (none (r .undecided .unverified)) (one-undisputed lim shifted anchors n t (none (r .undecided .unverified)) (r .undecided .few))
-      go (Meaning.too-many r) = absurd (omega (arith, r .many, asked .few))
       go (Meaning.out-of-range r) = absurd (never-both (r .outside) (asked .within))
       go (Meaning.wrong-length r) = absurd (r .wrong (asked .long))
 
@@ -323,21 +305,6 @@ module _ (number : ℕ) (shifted anchors : List ℕ) (n : ℕ) (o : Options) whe
       subst (OutOfRange number shifted anchors n o) (sym (choice-limit number shifted anchors n o l w))
       (record { marked = record { answered = refl; from = refl; trusted = refl; warned = refl }; unlisted = refl; long = l; outside = w })
 
-  many-refused :
-      length shifted ≡ 4080
-      → limitFits (o .«search_limit») ≡ true
-      → 8 < candidateNumber shifted
-      → TooMany number shifted anchors n o (choiceOf number shifted anchors n o)
-  unfolding refusedOf
-  many-refused l w h =
-      let lim : ℕ = o .«search_limit» in
-      let a : Assessment = assessment lim shifted anchors n (o .«min_trailer_count») in
-      let more : 8 < a .candidates .len =
-      lt-cases (8 < a .candidates .len) 8 (a .candidates .len) (λ k. k)
-      (λ k. absurd (omega (arith, candidates-few lim shifted anchors n (o .«min_trailer_count») k))) in
-      subst (TooMany number shifted anchors n o) (sym (choice-is number shifted anchors n o l w ∙ chosen-many number (keystream o) a more))
-      (record { marked = record { answered = refl; from = refl; trusted = refl; warned = refl }; unlisted = refl; within = w; many = h })
-
   pub made-by : Made number shifted anchors n o (choiceOf number shifted anchors n o)
   made-by =
       record {
@@ -348,7 +315,6 @@ module _ (number : ℕ) (shifted anchors : List ℕ) (n : ℕ) (o : Options) whe
         ambiguous = λ k. dispute-refused number shifted anchors n o _ (is k) k;
         topmost = λ k. undecided-topmost number shifted anchors n o _ (is k) k;
         unverified = λ k. undecided-refused number shifted anchors n o _ (is k) k;
-        too-many = many-refused;
         out-of-range = limit-refused;
         wrong-length = length-refused;
       }

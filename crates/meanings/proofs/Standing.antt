@@ -1,26 +1,22 @@
 -- The groups of candidates as values of bv: which values a group has, in words of the page. Assumes nothing.
-use Prim.Native.Nat.{ℕ, _≤_, _<_, min}
+use Prim.Native.Nat.{ℕ, _<_}
 use mathlib.Core.Path.{_≡_, refl, ap, _∙_}
 use mathlib.Core.Bool.{Bool, not, _&&_, _||_}
 use mathlib.Core.List.{List}
-use native.Mathlib.Omega.{arith}
 use lib.Dec.{eqb, ltb, leb}
 use lib.ListN.{length}
 use Rattle.lists.specs.Bytes.{AllBytes}
 use Rattle.lists.specs.Counts.{isIn}
 use Rattle.lists.specs.Pieces.{among, keep}
-use Rattle.lists.proofs.Among.{among-length}
-use Rattle.lists.proofs.Each.{each-length}
-use Rattle.votes.specs.Votes.{countsOf, ballots, topOf, isCandidate, isVerified, candidateOf, candidatesBelow, candidateAt, listed, assessmentOf}
+use Rattle.votes.specs.Votes.{countsOf, ballots, topOf, isCandidate, isVerified, candidateOf, candidatesBelow, assessmentOf}
 use Rattle.votes.specs.declared.Candidate.{Candidate}
 use Rattle.votes.specs.declared.Assessment.{Assessment}
-use Rattle.votes.proofs.CandidateTable.{tabled-holds, tabled-listed}
-use Rattle.votes.proofs.Tests.{lt-cases}
+use Rattle.votes.proofs.Eight.{table-whole}
 use Rattle.groups.specs.declared.Group.{Group}
 use Rattle.groups.specs.declared.Group.the-variants.{Voted, Rivals, Contest, Supported}
 use Rattle.groups.specs.Groups.{belongs, group, isRival, hasSupport, outranks}
 use Rattle.meanings.specs.Values.{votesFor, standsFor}
-use Rattle.meanings.specs.Sources.{candidateNumber, isStrong, comesBefore}
+use Rattle.meanings.specs.Sources.{isStrong, comesBefore}
 use Rattle.meanings.proofs.Values.{ballots-at, zeros-at}
 use Rattle.meanings.proofs.Passing.{kept-among, among-ext}
 
@@ -31,36 +27,13 @@ module _ (lim : ℕ) (shifted anchors : List ℕ) (n t : ℕ) where
   abbrev pub assessment : Assessment
   assessment = assessmentOf lim shifted anchors n t
 
-  -- ---- how many candidates there are
+  -- ---- a group as values
 
-  all-number : length (candidatesBelow lim shifted anchors n t 256) ≡ candidateNumber shifted
-  unfolding candidatesBelow candidateNumber standsFor
-  all-number = among-length (isCandidate (countsOf shifted) (countsOf (ballots shifted))) made 256
-
-  pub few-candidates : candidateNumber shifted ≤ 8 → assessment .candidates .len ≤ 8
-  unfolding assessmentOf
-  few-candidates h =
-      let k : length (candidatesBelow lim shifted anchors n t 256) ≤ 8 = omega (arith, all-number) in
-      omega (arith, tabled-holds (candidatesBelow lim shifted anchors n t 256) k .number)
-
-  pub many-candidates : 8 < assessment .candidates .len → 8 < candidateNumber shifted
-  many-candidates h = lt-cases (8 < candidateNumber shifted) 8 (candidateNumber shifted) (λ k. k) (λ k. absurd (omega (arith, few-candidates k)))
-
-  module _ (few : assessment .candidates .len ≤ 8) where
-    pub all-listed : listed (assessment .candidates) ≡ candidatesBelow lim shifted anchors n t 256
-    unfolding assessmentOf
-    all-listed = tabled-listed (candidatesBelow lim shifted anchors n t 256) few
-
-    pub candidates-few : candidateNumber shifted ≤ 8
-    candidates-few =
-        omega (arith, ap length all-listed, all-number, each-length (candidateAt (assessment .candidates)) (min (assessment .candidates .len) 8))
-
-    -- ---- a group as values
-
+  module _ (long : length shifted ≡ 4080) where
     pub group-values : (g : Group) → group g assessment ≡ among (λ v. standsFor shifted v && belongs g (made v)) made 256
     unfolding candidatesBelow standsFor
     group-values g =
-        ap (keep (belongs g)) all-listed ∙ kept-among made (isCandidate (countsOf shifted) (countsOf (ballots shifted))) (belongs g) 256
+        ap (keep (belongs g)) (table-whole shifted long lim anchors n t) ∙ kept-among made (isCandidate (countsOf shifted) (countsOf (ballots shifted))) (belongs g) 256
 
     pub group-as :
         (g : Group) (p : ℕ → Bool)

@@ -5,8 +5,8 @@ use mathlib.Core.Bool.{Bool, true, false}
 use mathlib.Core.List.{List, [], _∷_, _++_}
 use native.Mathlib.Nat.{not-suc-le-zero}
 use native.Mathlib.Omega.{arith}
-use borrow.Author.Tests.{eqb-true, eq-eqb, leb-true, ltb-false}
-use lib.Dec.{eqb, leb, ltb}
+use borrow.Author.Tests.{eqb-true, eq-eqb, leb-true}
+use lib.Dec.{eqb, leb}
 use lib.ListN.{length}
 use Rattle.lists.specs.Bytes.{AllBytes}
 use Rattle.lists.specs.Cases.{pick}
@@ -29,14 +29,14 @@ use Rattle.answers.specs.declared.settings.Options.{Options}
 use Rattle.votes.specs.Votes.{countsOf, ballots, topOf, candidateOf, candidatesBelow, assessmentOf, listed}
 use Rattle.votes.specs.declared.Candidate.{Candidate}
 use Rattle.votes.specs.declared.Assessment.{Assessment}
+use Rattle.votes.proofs.Eight.{table-whole}
 use Rattle.votes.proofs.Meaning.{top-byte, top-candidate}
 use Rattle.groups.specs.declared.Group.{Group}
 use Rattle.groups.specs.declared.Group.the-variants.{Verified, Voted, Only, Rivals, Contest}
 use Rattle.groups.specs.Groups.{firstOf, isRival, belongs, group, outranks, higher, highestOf}
 use Rattle.choice.specs.declared.Choice.{Choice}
-use Rattle.choice.specs.Rules.{groundsOf, takenOf, refusedOf, ambiguousOf, unverifiedOf, topCandidate, isCorroborated, ruleFour, ruleThree, isCalibrated, ruleTwo, soleOf, ruleOne, chosen, choiceOf}
+use Rattle.choice.specs.Rules.{groundsOf, takenOf, refusedOf, ambiguousOf, unverifiedOf, topCandidate, isCorroborated, ruleFour, ruleThree, isCalibrated, ruleTwo, soleOf, ruleOne, choiceOf}
 use Rattle.meanings.specs.Values.{standsFor}
-use Rattle.meanings.proofs.Standing.{all-listed}
 
 -- what holds of every candidate of a list
 unfoldable AllOf : (Candidate → Type 0) → List Candidate → Type 0
@@ -211,8 +211,8 @@ module _ (lim : ℕ) (shifted anchors : List ℕ) (n t : ℕ) where
       (pick-case (AllOf P) (standsFor shifted v) (candidateOf lim shifted anchors n t v ∷ []) []
       (λ e. (record { byte = omega arith; stands = e; is = refl }, tt)) (λ e. tt))
 
-  -- at most eight candidates: the top is one of those in the table
-  module _ (few : assessment .candidates .len ≤ 8) where
+  -- the top is one of those in the table
+  module _ (long : length shifted ≡ 4080) where
     top-bv : candidateOf lim shifted anchors n t (topOf (countsOf shifted)) .bv ≡ topOf (countsOf shifted)
     unfolding candidateOf
     top-bv = refl
@@ -222,17 +222,16 @@ module _ (lim : ℕ) (shifted anchors : List ℕ) (n t : ℕ) where
       unfolding assessmentOf candidatesBelow standsFor
       top-found =
           let v : ℕ = topOf (countsOf shifted) in
-          subst (λ (l : List Candidate). 0 < length (keep (belongs (Only v)) l)) (sym (all-listed lim shifted anchors n t few))
+          subst (λ (l : List Candidate). 0 < length (keep (belongs (Only v)) l)) (sym (table-whole shifted long lim anchors n t))
           (keep-among (standsFor shifted) (candidateOf lim shifted anchors n t) (belongs (Only v)) 256 v (top-byte (countsOf shifted))
           (top-candidate shifted (countsOf (ballots shifted)) h b) (eq-eqb _ v top-bv))
 
       takes-ruled : (number : ℕ) (lenient : Bool) → Takes P assessment (ruleOne number lenient assessment)
       takes-ruled number lenient =
-          takes-one P number lenient assessment (subst (AllOf P) (sym (all-listed lim shifted anchors n t few)) (stands-below 256 (omega arith))) top-found
+          takes-one P number lenient assessment (subst (AllOf P) (sym (table-whole shifted long lim anchors n t)) (stands-below 256 (omega arith))) top-found
 
--- of an accepted choice: at most eight candidates stand, and one of them was taken
+-- of an accepted choice: a candidate was taken
 pub record Chosen (lim : ℕ) (shifted anchors : List ℕ) (n t : ℕ) (c : Choice) : Type 0 where
-  pub few : assessmentOf lim shifted anchors n t .candidates .len ≤ 8
   pub long : length shifted ≡ 4080
   pub within : limitFits lim ≡ true
   pub byte : c .bv < 256
@@ -249,26 +248,20 @@ module _ (number : ℕ) (shifted anchors : List ℕ) (n : ℕ) (o : Options) (b 
   abbrev a : Assessment
   a = assessmentOf lim shifted anchors n t
 
-  -- an accepted choice is one by the rules, among at most eight candidates
+  -- an accepted choice is one by the rules
   record Ruled (c : Choice) : Type 0 where
     ruled :
         isAccepted (c .answer) ≡ true
-        → (length shifted ≡ 4080) × (limitFits lim ≡ true) × (a .candidates .len ≤ 8) × (c ≡ ruleOne number (keystream o) a)
+        → (length shifted ≡ 4080) × (limitFits lim ≡ true) × (c ≡ ruleOne number (keystream o) a)
 
   ruled-choice : Ruled (choiceOf number shifted anchors n o)
-  unfolding choiceOf chosen refusedOf
+  unfolding choiceOf refusedOf
   ruled-choice =
-      pick-case Ruled (eqb (length shifted) 4080) (pick (limitFits lim) (chosen number (keystream o) a) (refusedOf (answer.LimitOutOfRange lim) noBvs))
+      pick-case Ruled (eqb (length shifted) 4080) (pick (limitFits lim) (ruleOne number (keystream o) a) (refusedOf (answer.LimitOutOfRange lim) noBvs))
       (refusedOf (answer.WrongBufferLength (length shifted)) noBvs)
       (λ e.
-      pick-case Ruled (limitFits lim) (chosen number (keystream o) a) (refusedOf (answer.LimitOutOfRange lim) noBvs)
-      (λ w.
-      pick-case Ruled (ltb 8 (a .candidates .len)) (refusedOf (answer.TooManyCandidates number) noBvs) (ruleOne number (keystream o) a)
-      (λ f. record { ruled = λ q. absurd (never-both refl q) })
-      (λ f.
-      record {
-        ruled = λ q. (eqb-true (length shifted) 4080 e, w, omega (arith, ltb-false 8 (a .candidates .len) f), refl);
-      }))
+      pick-case Ruled (limitFits lim) (ruleOne number (keystream o) a) (refusedOf (answer.LimitOutOfRange lim) noBvs)
+      (λ w. record { ruled = λ q. (eqb-true (length shifted) 4080 e, w, refl) })
       (λ w. record { ruled = λ q. absurd (never-both refl q) }))
       (λ e. record { ruled = λ q. absurd (never-both refl q) })
 
@@ -279,13 +272,11 @@ module _ (number : ℕ) (shifted anchors : List ℕ) (n : ℕ) (o : Options) (b 
       let c : Choice = choiceOf number shifted anchors n o in
       let r = ruled-choice .ruled good in
       let long : length shifted ≡ 4080 = r .0 in
-      let few : a .candidates .len ≤ 8 = r .2 in
-      let rule : c ≡ ruleOne number (keystream o) a = r .3 in
+      let rule : c ≡ ruleOne number (keystream o) a = r .2 in
       let some : 0 < length shifted = omega arith in
       let k : Taking (Proper lim shifted anchors n t) a c =
-      subst (Takes (Proper lim shifted anchors n t) a) (sym rule) (takes-ruled lim shifted anchors n t few some b number (keystream o)) .made good in
+      subst (Takes (Proper lim shifted anchors n t) a) (sym rule) (takes-ruled lim shifted anchors n t long some b number (keystream o)) .made good in
       record {
-        few = few;
         long = long;
         within = r .1;
         byte = subst (λ (v : ℕ). v < 256) (sym (k .bv)) (k .holds .byte);

@@ -9,11 +9,11 @@ use lib.Dec.{eqb}
 use lib.ListN.{length}
 use Rattle.lists.specs.Bytes.{byteAt, AllBytes}
 use Rattle.lists.proofs.Booleans.{not-true, and-yes, and-left, and-right}
-use Rattle.lists.proofs.Many.{many-ext}
+use Rattle.lists.proofs.Many.{many-zero, many-ext, many-weaker}
 use Rattle.votes.specs.Votes.{countsOf, ballots, isCommon, isCandidate}
 use Rattle.meanings.specs.Values.{isExact, exactValue, exactSectors, votesFor, dissentFrom, standsFor}
 use Rattle.meanings.proofs.Values.{ballots-at, exact-parted}
-use Rattle.meanings.proofs.Passing.{some-pass, all-fail, wider-pass}
+use Rattle.meanings.proofs.Passing.{some-pass}
 
 module _ (shifted : List ℕ) where
   pub voted-stands : (v : ℕ) → v < 256 → 0 < votesFor shifted v → standsFor shifted v ≡ true
@@ -44,7 +44,7 @@ module _ (shifted : List ℕ) where
     pub none-exact : ((v : ℕ) → v < 256 → 0 < votesFor shifted v → ⊥) → exactSectors shifted ≡ 0
     unfolding exactSectors
     none-exact none =
-        all-fail (isExact shifted) 8
+        many-zero (isExact shifted) 8
         (λ s h. not-true (isExact shifted s) (λ x. none (exactValue shifted s) (value-byte long bytes s h) (value-voted s (exactValue shifted s) h x refl)))
 
   pub all-agree : (bv : ℕ) → ((s : ℕ) → s < 8 → isExact shifted s ≡ true → exactValue shifted s ≡ bv) → votesFor shifted bv ≡ exactSectors shifted
@@ -63,7 +63,7 @@ module _ (shifted : List ℕ) where
       omega (
         arith,
         exact-parted shifted v,
-        wider-pass (λ s. isExact shifted s && eqb (exactValue shifted s) w) (λ s. isExact shifted s && not (eqb (exactValue shifted s) v)) 8
+        many-weaker (λ s. isExact shifted s && eqb (exactValue shifted s) w) (λ s. isExact shifted s && not (eqb (exactValue shifted s) v)) 8
             (λ s h t.
             and-yes (isExact shifted s) (not (eqb (exactValue shifted s) v)) (and-left (isExact shifted s) (eqb (exactValue shifted s) w) t)
             (ap not

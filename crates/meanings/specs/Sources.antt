@@ -41,10 +41,7 @@ pub record Other (shifted : List ℕ) (bv v : ℕ) : Type 0 where
   pub stands : Stands shifted v
   pub differs : v ≡ bv → ⊥
 
--- how many candidates there are, and how many of them are verified
-unfoldable pub candidateNumber : List ℕ → ℕ
-candidateNumber shifted = howMany (standsFor shifted) 256
-
+-- how many of them are verified
 unfoldable pub verifiedNumber : ℕ → List ℕ → ℕ → ℕ → ℕ
 verifiedNumber lim shifted n t = howMany (λ v. standsFor shifted v && isVerified lim shifted n t v) 256
 
@@ -119,12 +116,11 @@ pub record Undecided (lim : ℕ) (shifted anchors : List ℕ) (n t : ℕ) : Type
   pub few : exactSectors shifted ≤ 1
   pub uncorroborated : Corroborates shifted anchors (topValue shifted) → ⊥
 
--- the rules are asked for 4,080 bytes with eight candidates at most, and a limit in its range
+-- the rules are asked for 4,080 bytes, and a limit in its range
 pub record Asked (lim : ℕ) (shifted : List ℕ) : Type 0 where
   pub long : length shifted ≡ 4080
   pub within : limitFits lim ≡ true
   pub bytes : AllBytes shifted
-  pub few : candidateNumber shifted ≤ 8
 
 -- ---- what a choice can be
 
@@ -212,13 +208,7 @@ module _ (number : ℕ) (shifted anchors : List ℕ) (n : ℕ) (o : Options) (c 
     pub strict : keystream o ≡ false
     pub undecided : Undecided lim shifted anchors n t
 
-  -- answer 15, answer 20, and answer 2
-  pub record TooMany : Type 0 where
-    pub marked : RefusedWith c (answer.TooManyCandidates number)
-    pub unlisted : c .group ≡ noBvs
-    pub within : limitFits lim ≡ true
-    pub many : 8 < candidateNumber shifted
-
+  -- answer 20, and answer 2
   pub record OutOfRange : Type 0 where
     pub marked : RefusedWith c (answer.LimitOutOfRange lim)
     pub unlisted : c .group ≡ noBvs
@@ -239,7 +229,6 @@ module _ (number : ℕ) (shifted anchors : List ℕ) (n : ℕ) (o : Options) (c 
     topmost : ByTop → Meaning
     ambiguous : Ambiguous → Meaning
     unverified : Unverified → Meaning
-    too-many : TooMany → Meaning
     out-of-range : OutOfRange → Meaning
     wrong-length : WrongLength → Meaning
 
@@ -251,7 +240,6 @@ module _ (number : ℕ) (shifted anchors : List ℕ) (n : ℕ) (o : Options) (c 
     pub histogram : c .source ≡ source.Histogram → ByRank ⊎ ByTop
     pub ambiguous : numberOf (c .answer) ≡ 5 → Ambiguous
     pub unverified : numberOf (c .answer) ≡ 6 → Unverified
-    pub too-many : numberOf (c .answer) ≡ 15 → TooMany
     pub out-of-range : numberOf (c .answer) ≡ 20 → OutOfRange
     pub wrong-length : numberOf (c .answer) ≡ 2 → WrongLength
 
@@ -269,14 +257,13 @@ module _ (number : ℕ) (shifted anchors : List ℕ) (n : ℕ) (o : Options) (c 
     pub ambiguous : Asked lim shifted → 2 ≤ disputedNumber lim shifted anchors n t → keystream o ≡ false → Ambiguous
     pub topmost : Asked lim shifted → Undecided lim shifted anchors n t → keystream o ≡ true → ByTop
     pub unverified : Asked lim shifted → Undecided lim shifted anchors n t → keystream o ≡ false → Unverified
-    pub too-many : length shifted ≡ 4080 → limitFits lim ≡ true → 8 < candidateNumber shifted → TooMany
     pub out-of-range : length shifted ≡ 4080 → limitFits lim ≡ false → OutOfRange
     pub wrong-length : (length shifted ≡ 4080 → ⊥) → WrongLength
 
 -- ---- the theorems
 
 pub record ChoiceMeans : Type 0 where
-  -- every choice is one of the ten; so its marks say what holds of the page, and what holds of the page decides it
+  -- every choice is one of the nine; so its marks say what holds of the page, and what holds of the page decides it
   pub every :
       (number : ℕ) (shifted anchors : List ℕ) (n : ℕ) (o : Options)
       → AllBytes shifted

@@ -5,7 +5,7 @@ use lib.ListN.{length}
 use Rattle.numbers.specs.Numbers.{littleBytes}
 use Rattle.answers.specs.Answers.{numberOf, valuesOf}
 use Rattle.answers.specs.declared.kinds.Answer.{Answer}
-use Rattle.answers.specs.declared.kinds.Answer.the-variants.{Accepted, WrongPageLength, WrongBufferLength, BadCrc, BadTrailer, AmbiguousCalibration, KeystreamUnverified, LowConfidenceKeystream, NoSlotDirectory, UnknownPrelude, SlotDirectoryTruncated, AmbiguousSlotDirectory, SlotOffsetInDirectory, BadMagic, BadReplacement, TooManyCandidates, NoSuchRow, MalformedLine, LimitOutOfRange}
+use Rattle.answers.specs.declared.kinds.Answer.the-variants.{Accepted, WrongPageLength, WrongBufferLength, BadCrc, BadTrailer, AmbiguousCalibration, KeystreamUnverified, LowConfidenceKeystream, NoSlotDirectory, UnknownPrelude, SlotDirectoryTruncated, AmbiguousSlotDirectory, SlotOffsetInDirectory, BadMagic, BadReplacement, NoSuchRow, MalformedLine, LimitOutOfRange}
 use Rattle.parts.specs.Parts.{answerHead}
 
 -- the number, how many values, six zeros
@@ -26,7 +26,6 @@ head-bytes (AmbiguousSlotDirectory page) = refl
 head-bytes (SlotOffsetInDirectory page offset end) = refl
 head-bytes (BadMagic magic) = refl
 head-bytes (BadReplacement sector) = refl
-head-bytes (TooManyCandidates page) = refl
 head-bytes (NoSuchRow row) = refl
 head-bytes MalformedLine = refl
 head-bytes (LimitOutOfRange limit) = refl

@@ -21,6 +21,10 @@ pub part-length : (l : List ℕ) (s : ℕ) → 4080 ≤ length l → length (par
 unfolding part
 part-length l s h = simp (length-take, length-drop) (omega arith)
 
+pub part-at : (l : List ℕ) (s i : ℕ) → i < sectorEnd s - s * 512 → getD (part s l) i 0 ≡ getD l (s * 512 + i) 0
+unfolding part
+part-at l s i h = getD-take (sectorEnd s - s * 512) (drop (s * 512) l) i 0 h ∙ getD-drop (s * 512) l i 0
+
 -- one piece for each sector, as long as the sector
 pub record Sized (f : ℕ → List ℕ) : Type 0 where
   pub at : (s : ℕ) → s < 8 → length (f s) ≡ sectorEnd s - s * 512

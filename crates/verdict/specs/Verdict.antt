@@ -1,4 +1,4 @@
--- Document 01, "Answer numbers": what is decided of a page, in the order 3, 4, 15, choice, 7. `stored` is the stored page, `fits` and `shifted` its summary.
+-- Document 01, "Answer numbers": what is decided of a page, in the order 3, 4, choice, 7. `stored` is the stored page, `fits` and `shifted` its summary.
 -- The choice refuses a search limit out of range; a decoding does so before it comes here. Assumes nothing.
 use Prim.Native.Nat.{ℕ}
 use mathlib.Core.Bool.{Bool, false, not}
@@ -86,6 +86,6 @@ verdictBy number x n fits shifted anchors o =
 unfoldable pub verdictOf : ℕ → List ℕ → List Fit → List ℕ → List ℕ → Options → Decoding
 verdictOf number stored fits shifted anchors o = verdictBy number (integrityOf number stored) (rowCount stored) fits shifted anchors o
 
--- "A supplied bv skips 3, 4 and 15"
+-- a supplied bv skips 3 and 4
 abbrev pub suppliedVerdict : ℕ → ℕ → ℕ → List Fit → List ℕ → Options → Decoding
 suppliedVerdict number bv n fits shifted o = settledOf number (keystream o) (refitOf fits shifted) (suppliedOf number bv shifted n o) noWarnings

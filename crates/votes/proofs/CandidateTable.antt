@@ -1,9 +1,8 @@
--- The table of candidates: one entry more, and what list it holds where it has not counted past eight. Assumes nothing.
+-- The table of candidates: one entry more, and what list it holds where there is room for all of it. Assumes nothing.
 use Prim.Native.Nat.{_+_, _≤_, _<_, min}
 use mathlib.Core.Path.{_≡_, refl, sym, ap, ap₂, _∙_, subst}
 use mathlib.Core.List.{List, [], _∷_, _++_, append-assoc, append-nil}
 use native.Mathlib.Omega.{arith}
-use borrow.Author.Tests.{le-leb, lt-leb}
 use lib.ListN.{length, getD, set, length-append, length-set}
 use lib.Seq.{getD-set-same, getD-set-other}
 use Rattle.lists.specs.Pieces.{each, fold}
@@ -11,40 +10,16 @@ use Rattle.lists.proofs.Each.{each-none, each-more, each-ext}
 use Rattle.lists.proofs.Picks.{pick-le, pick-gt}
 use Rattle.votes.specs.declared.Candidate.{Candidate}
 use Rattle.votes.specs.declared.Candidates.{Candidates}
-use Rattle.votes.specs.Votes.{blankCandidate, noCandidates, withCandidate, tabled, candidateAt, listed}
-use Rattle.votes.proofs.Tests.{lt-cases}
+use Rattle.votes.specs.Votes.{places, blankCandidate, noCandidates, withCandidate, tabled, candidateAt, listed}
 
 module _ (t : Candidates) (c : Candidate) where
-  pub candidate-full : 9 ≤ t .len → t ≡ withCandidate t c
+  pub candidate-full : places ≤ t .len → t ≡ withCandidate t c
   unfolding withCandidate
-  candidate-full h = pick-le _ _ 9 (t .len) h
+  candidate-full h = pick-le _ _ places (t .len) h
 
-  pub candidate-counted : t .len < 9 → 8 ≤ t .len → record { items = t .items; len = t .len + 1 } ≡ withCandidate t c
+  pub candidate-kept : t .len < places → record { items = set (t .items) (t .len) c; len = t .len + 1 } ≡ withCandidate t c
   unfolding withCandidate
-  candidate-counted h k =
-      ap (λ (l : List Candidate). record { items = l; len = t .len + 1 }) (pick-le (t .items) (set (t .items) (t .len) c) 8 (t .len) k)
-      ∙ pick-gt _ _ 9 (t .len) h
-
-  pub candidate-kept : t .len < 9 → t .len < 8 → record { items = set (t .items) (t .len) c; len = t .len + 1 } ≡ withCandidate t c
-  unfolding withCandidate
-  candidate-kept h k =
-      ap (λ (l : List Candidate). record { items = l; len = t .len + 1 }) (pick-gt (t .items) (set (t .items) (t .len) c) 8 (t .len) k)
-      ∙ pick-gt _ _ 9 (t .len) h
-
--- ---- it counts to nine
-
-count-one : (t : Candidates) (c : Candidate) → t .len ≤ 9 → withCandidate t c .len ≡ min (t .len + 1) 9
-unfolding withCandidate
-count-one t c h =
-    lt-cases (withCandidate t c .len ≡ min (t .len + 1) 9) (t .len) 9 (λ q. rw (lt-leb 9 (t .len) q) (omega arith))
-    (λ q. rw (le-leb 9 (t .len) q) (omega arith))
-
-count-all : (l : List Candidate) (t : Candidates) → t .len ≤ 9 → fold withCandidate t l .len ≡ min (t .len + length l) 9
-unfolding fold
-count-all [] t h = omega arith
-count-all (c ∷ l) t h =
-    let e : withCandidate t c .len ≡ min (t .len + 1) 9 = count-one t c h in
-    omega (arith, count-all l (withCandidate t c) (omega arith))
+  candidate-kept h = pick-gt _ _ places (t .len) h
 
 -- ---- a table that holds a list
 
@@ -56,10 +31,10 @@ pub record Holds (t : Candidates) (l : List Candidate) : Type 0 where
 pub holds-none : Holds noCandidates []
 holds-none = record { number = refl; room = refl; list = each-none _ }
 
-pub holds-more : (t : Candidates) (l : List Candidate) (c : Candidate) → Holds t l → length l < 8 → Holds (withCandidate t c) (l ++ (c ∷ []))
+pub holds-more : (t : Candidates) (l : List Candidate) (c : Candidate) → Holds t l → length l < places → Holds (withCandidate t c) (l ++ (c ∷ []))
 holds-more t l c h k =
     let e : record { items = set (t .items) (t .len) c; len = t .len + 1 } ≡ withCandidate t c =
-    candidate-kept t c (omega (arith, h .number)) (omega (arith, h .number)) in
+    candidate-kept t c (omega (arith, h .number)) in
     subst (λ (r : Candidates). Holds r (l ++ (c ∷ []))) e
     (record {
       number = omega (arith, h .number, length-append l (c ∷ []));
@@ -73,12 +48,12 @@ holds-more t l c h k =
           (getD-set-same (t .items) (t .len) c blankCandidate (omega (arith, h .number, h .room)));
     })
 
-pub holds-listed : (t : Candidates) (l : List Candidate) → Holds t l → length l ≤ 8 → listed t ≡ l
+pub holds-listed : (t : Candidates) (l : List Candidate) → Holds t l → length l ≤ places → listed t ≡ l
 holds-listed t l h k =
-    let e : min (t .len) 8 ≡ t .len = omega (arith, h .number) in
+    let e : min (t .len) places ≡ t .len = omega (arith, h .number) in
     ap (each (candidateAt t)) e ∙ h .list
 
-holds-all : (l front : List Candidate) (t : Candidates) → Holds t front → length front + length l ≤ 8 → Holds (fold withCandidate t l) (front ++ l)
+holds-all : (l front : List Candidate) (t : Candidates) → Holds t front → length front + length l ≤ places → Holds (fold withCandidate t l) (front ++ l)
 unfolding fold
 holds-all [] front t h k = subst (Holds t) (sym (append-nil front)) h
 holds-all (c ∷ l) front t h k =
@@ -86,13 +61,6 @@ holds-all (c ∷ l) front t h k =
     subst (Holds (fold withCandidate (withCandidate t c) l)) (append-assoc front (c ∷ []) l)
     (holds-all l (front ++ (c ∷ [])) (withCandidate t c) next (omega (arith, length-append front (c ∷ []))))
 
-pub tabled-holds : (l : List Candidate) → length l ≤ 8 → Holds (tabled l) l
+pub tabled-holds : (l : List Candidate) → length l ≤ places → Holds (tabled l) l
 unfolding tabled
 tabled-holds l h = holds-all l [] noCandidates holds-none (omega arith)
-
--- THE TABLE OF ALL CANDIDATES holds every one of them, where it has not counted past eight
-pub tabled-listed : (l : List Candidate) → tabled l .len ≤ 8 → listed (tabled l) ≡ l
-unfolding tabled
-tabled-listed l h =
-    let few : length l ≤ 8 = omega (arith, count-all l noCandidates (omega arith)) in
-    holds-listed (tabled l) l (tabled-holds l few) few

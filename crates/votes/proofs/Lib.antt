@@ -6,3 +6,4 @@ pub mod Keys
 pub mod Ballots
 pub mod Assessments
 pub mod Meaning
+pub mod Eight

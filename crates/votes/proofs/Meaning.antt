@@ -22,6 +22,7 @@ use Rattle.lists.proofs.Many.{many-ext}
 use Rattle.lists.proofs.Greatest.{greatest-above}
 use Rattle.votes.specs.declared.Candidate.{Candidate}
 use Rattle.votes.specs.Votes.{countsOf, ballots, beats, topOf, isCommon, isCandidate, candidateOf, candidatesBelow}
+use Rattle.votes.specs.Eight.{valuesOf}
 use Rattle.votes.proofs.Tests.{lt-cases}
 use Rattle.votes.proofs.Keys.{keyAt, beats-key, top-met}
 
@@ -124,10 +125,6 @@ module _ (g : Candidate → ℕ) where
       map-append (among p f n) (pick (p n) (f n ∷ []) [])
       ∙ ap₂ (λ (l m : List ℕ). l ++ m) (map-among p f n) (map-one (p n) (f n))
 
--- the candidates' values
-abbrev pub valuesOf : List Candidate → List ℕ
-valuesOf l = map (λ (c : Candidate). c .bv) l
-
 module _ (lim : ℕ) (shifted anchors : List ℕ) (n t bound : ℕ) where
   values-are : valuesOf (candidatesBelow lim shifted anchors n t bound) ≡ among (isCandidate (countsOf shifted) (countsOf (ballots shifted))) (λ v. v) bound
   unfolding candidatesBelow candidateOf
@@ -135,6 +132,15 @@ module _ (lim : ℕ) (shifted anchors : List ℕ) (n t bound : ℕ) where
 
   pub candidates-rise : Rises bound (valuesOf (candidatesBelow lim shifted anchors n t bound))
   candidates-rise = subst (Rises bound) (sym values-are) (among-rises (isCandidate (countsOf shifted) (countsOf (ballots shifted))) bound)
+
+  pub candidates-just :
+      (v : ℕ)
+      → v < bound
+      → isIn v (valuesOf (candidatesBelow lim shifted anchors n t bound)) ≡ isCandidate (countsOf shifted) (countsOf (ballots shifted)) v
+  candidates-just v h =
+      ap (isIn v) values-are
+      ∙ among-has (isCandidate (countsOf shifted) (countsOf (ballots shifted))) bound v
+      ∙ ap (λ (b : Bool). b && isCandidate (countsOf shifted) (countsOf (ballots shifted)) v) (lt-ltb v bound h)
 
   -- "all voted values and the four commonest": voted for, or it occurs and fewer than four values beat it
   pub candidates-are :
@@ -144,10 +150,7 @@ module _ (lim : ℕ) (shifted anchors : List ℕ) (n t bound : ℕ) where
       ≡ (ltb 0 (byteAt (countsOf (ballots shifted)) v)
       || (ltb 0 (byteAt (countsOf shifted) v) && ltb (howMany (λ w. beats (countsOf shifted) w v) 256) 4))
   unfolding isCandidate isCommon
-  candidates-are v h =
-      ap (isIn v) values-are
-      ∙ among-has (isCandidate (countsOf shifted) (countsOf (ballots shifted))) bound v
-      ∙ ap (λ (b : Bool). b && isCandidate (countsOf shifted) (countsOf (ballots shifted)) v) (lt-ltb v bound h)
+  candidates-are v h = candidates-just v h
 
 -- no value beats the top; and where a value occurs, the top occurs and is a candidate
 none-pass : (n : ℕ) → howMany (λ w. false) n ≡ 0

@@ -60,7 +60,10 @@ candidateOf lim shifted anchors n t v =
 unfoldable pub candidatesBelow : ℕ → List ℕ → List ℕ → ℕ → ℕ → ℕ → List Candidate
 candidatesBelow lim shifted anchors n t bound = among (isCandidate (countsOf shifted) (countsOf (ballots shifted))) (candidateOf lim shifted anchors n t) bound
 
--- the table of candidates: the first eight, and how many there are, counted to nine
+-- the table of candidates; a full one stays as it is, and AtMostEight says that none is ever turned away
+abbrev pub places : ℕ
+places = 8
+
 abbrev pub blankCandidate : Candidate
 blankCandidate = record { bv = 0; zeros = 0; votes = 0; verified = false; anchored = false }
 
@@ -68,10 +71,8 @@ abbrev pub noCandidates : Candidates
 noCandidates = record { items = replicate 8 blankCandidate; len = 0 }
 
 unfoldable pub withCandidate : Candidates → Candidate → Candidates
-withCandidate t c =
-    pick (leb 9 (t .len)) t (record { items = pick (leb 8 (t .len)) (t .items) (set (t .items) (t .len) c); len = t .len + 1 })
+withCandidate t c = pick (leb places (t .len)) t (record { items = set (t .items) (t .len) c; len = t .len + 1 })
 
--- its meaning is CandidateTable.tabled-listed: the first eight, in their order
 unfoldable pub tabled : List Candidate → Candidates
 tabled l = fold withCandidate noCandidates l
 
@@ -80,7 +81,7 @@ abbrev pub candidateAt : Candidates → ℕ → Candidate
 candidateAt t i = getD (t .items) i blankCandidate
 
 abbrev pub listed : Candidates → List Candidate
-listed t = each (candidateAt t) (min (t .len) 8)
+listed t = each (candidateAt t) (min (t .len) places)
 
 -- what the rules go by: the candidates, the number of votes, and the top
 unfoldable pub assessmentOf : ℕ → List ℕ → List ℕ → ℕ → ℕ → Assessment

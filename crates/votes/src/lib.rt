@@ -20,8 +20,7 @@ pub struct Candidate {
     pub anchored: bool,
 }
 
-// The first eight candidates, ascending, and how many there are, counted to nine. Eight sectors may vote for eight values beside the four
-// commonest; a page of more than eight candidates is refused.
+// The candidates, ascending. No 4,080 bytes have more than eight: proofs/Eight.
 pub struct Candidates {
     pub items: [Candidate; 8],
     pub len: usize,
@@ -82,20 +81,17 @@ impl Candidates {
         Candidates { items, len: 0 }
     }
 
-    // One candidate more; a ninth is only counted, and past nine the table stays as it is.
+    // One candidate more; a full table stays as it is.
     pub fn with(self, c: Candidate) -> Self
         ensures { λ r. ⌜ r ≡ withCandidate self c ⌝ }
     {
         let at = self.len;
-        if 9 <= at {
+        if 8 <= at {
             return self;
         }
         let mut next = self;
-        next.len = at + 1;
-        if 8 <= at {
-            return next;
-        }
         next.items[at] = c;
+        next.len = at + 1;
         next
     }
 }
