@@ -179,7 +179,7 @@ extern "C" {
 #define LUMEVIQO_LEAST_SEARCH_LIMIT 8 /* four slots take so many */
 #define LUMEVIQO_GREATEST_SEARCH_LIMIT 2048
 
-/* Answers, and their values. 15 is not used: it was for more than eight candidates, and no page has so many. */
+/* Answers, and their values. 15 is not used: it was for more than eight candidates, and no page or summary has so many. */
 #define LUMEVIQO_ACCEPTED 0
 #define LUMEVIQO_WRONG_PAGE_LENGTH 1 /* length */
 #define LUMEVIQO_WRONG_BUFFER_LENGTH 2 /* length: of `out`, or else of `shifted` */

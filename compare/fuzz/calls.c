@@ -99,7 +99,6 @@ static const uint8_t values_of[ANSWERS] = {
     [LUMEVIQO_SLOT_OFFSET_IN_DIRECTORY] = 3,
     [LUMEVIQO_BAD_MAGIC] = 1,
     [LUMEVIQO_BAD_REPLACEMENT] = 1,
-    [LUMEVIQO_TOO_MANY_CANDIDATES] = 1,
     [LUMEVIQO_NO_SUCH_ROW] = 1,
     [LUMEVIQO_LIMIT_OUT_OF_RANGE] = 1,
 };
@@ -953,8 +952,17 @@ static size_t strange_length(size_t right) {
     }
 }
 
+/* Shifted bytes that are equal in each sector, or all: up to as many candidates as there can be, which a page seldom has. */
+static void level(uint8_t *shifted) {
+    size_t values = 1 + below(SECTORS), first = below(256);
+    for (size_t s = 0; s < SECTORS; s++)
+        memset(shifted + SECTOR * s, (uint8_t)(first + s % values), data_length(s));
+}
+
 static void alienate(int role) {
-    if (one_in(2))
+    if (role == SHIFTED && one_in(3))
+        level(call.held[role]);
+    else if (one_in(2))
         noise(call.held[role], ROOM);
     else
         damage(call.held[role], right_length(role));

@@ -151,6 +151,7 @@ fn marked(page: &[u8], r: &mut Random) -> (usize, Vec<u8>) {
 fn whole_page(case: &Case, reading: &Reading<'_>, tally: &mut Tally) -> Checked {
     let summary = Summary::of(reading);
     tally.scanned(&summary.fits);
+    candidates(case, reading, tally)?;
     scan(case, &Ok(&summary), SHIFTED, tally)?;
 
     for limit in [USUAL, case.limit] {
@@ -161,6 +162,19 @@ fn whole_page(case: &Case, reading: &Reading<'_>, tally: &mut Tally) -> Checked 
     let (room, shifted) = (r.of(&[0, 1, 4079, SHIFTED, 4081, 4095, 4097]), r.of(&[0, 1, 4079, 4081, 4095, PAGE, 4097]));
     [(room, shifted), (room, SHIFTED), (PAGE, shifted)].into_iter().try_for_each(|(room, shifted)| lengths(case, room, shifted, tally))?;
     replacements(case, summary, tally)
+}
+
+/// How many the original lists, by what a strict and a lenient decoding make of them. It is proved that there are never more than eight.
+fn candidates(case: &Case, reading: &Reading<'_>, tally: &mut Tally) -> Checked {
+    let listed = reading.candidates();
+    let keystream = h::LENIENT_KEYSTREAM as u8;
+    for bits in [case.bits & !keystream, case.bits | keystream] {
+        tally.choice(bits & keystream != 0, listed.len(), &reading.decode(&case.anchors, bits, USUAL));
+    }
+    if listed.len() <= h::MOST_CANDIDATES {
+        return Ok(());
+    }
+    Err(Difference::new(Question::Decoding, format!("the original lists {} candidates: {listed:?}", listed.len())))
 }
 
 /// The four decodings at a limit, and the rows of what they give.

@@ -59,8 +59,12 @@ pub const MARKER: &[u8; 33] = b"SAP SE, Copyright (c)2015 17.0.4.";
 
 type Maker = fn(&mut Random) -> Case;
 
-/// Each kind with its share of the inputs.
-pub const KINDS: &[(&str, usize, Maker)] = &[
+/// A kind with its share of the inputs.
+pub type Kind = (&'static str, usize, Maker);
+
+pub const MANY_CANDIDATES: &str = "many candidates";
+
+pub const KINDS: &[Kind] = &[
     ("two exact sectors or more", 6, calibrated),
     ("one exact sector", 5, corroborated),
     ("no exact sector", 4, no_exact),
@@ -78,6 +82,7 @@ pub const KINDS: &[(&str, usize, Maker)] = &[
     ("words of a directory", 5, words),
     ("two verified", 5, two_verified),
     ("verified and contested", 5, contested),
+    (MANY_CANDIDATES, 8, many_candidates),
     ("bad CRC", 3, bad_crc),
     ("bad trailer", 3, bad_trailer),
     ("all zero, or nearly", 2, zero),
@@ -95,16 +100,21 @@ pub const KINDS: &[(&str, usize, Maker)] = &[
 
 /// Input number `index` of a seed.
 pub fn case(seed: u64, index: u64) -> Case {
+    case_among(KINDS, seed, index)
+}
+
+/// The same of some kinds.
+pub fn case_among(kinds: &[Kind], seed: u64, index: u64) -> Case {
     let mut r = Random::new(seed, index);
-    let (name, maker) = pick(&mut r);
+    let (name, maker) = pick(kinds, &mut r);
     let mut case = maker(&mut r);
     case.kind = name;
     case
 }
 
-fn pick(r: &mut Random) -> (&'static str, Maker) {
-    let mut at = r.below(KINDS.iter().map(|k| k.1).sum());
-    for &(name, share, maker) in KINDS {
+fn pick(kinds: &[Kind], r: &mut Random) -> (&'static str, Maker) {
+    let mut at = r.below(kinds.iter().map(|k| k.1).sum());
+    for &(name, share, maker) in kinds {
         if at < share {
             return (name, maker);
         }
@@ -434,14 +444,8 @@ fn two_verified(r: &mut Random) -> Case {
     let d = r.of(&[0x40, 0x55, 0x80, 0xA0, 0xC0]);
     let second = r.from_to(0x160, 0x200);
     let first = r.below(0x20);
-    for (field, less) in [(first, 0), (second, d)] {
-        let gap = r.of(&[4, 6]);
-        let list = slots(r, n, 0x400, 0xFF0);
-        write_directory(r, &mut plan.data, field, gap, n as u16, &list);
-        for b in &mut plan.data[field..field + gap + 2 * n] {
-            *b = b.wrapping_add(less);
-        }
-    }
+    directory_under(r, &mut plan, first, n, 0);
+    directory_under(r, &mut plan, second, n, d);
     for s in 2..8 {
         match r.below(4) {
             0 => fill(r, plan.sector(s), Fill::Constant(d)),
@@ -456,6 +460,16 @@ fn two_verified(r: &mut Random) -> Case {
     }
     plan.rows(n as u8);
     case_of(r, plan)
+}
+
+/// A directory of n rows that reads under bv + d.
+fn directory_under(r: &mut Random, plan: &mut Plan, field: usize, n: usize, d: u8) {
+    let gap = r.of(&[4, 6]);
+    let list = slots(r, n, 0x400, 0xFF0);
+    write_directory(r, &mut plan.data, field, gap, n as u16, &list);
+    for b in &mut plan.data[field..field + gap + 2 * n] {
+        *b = b.wrapping_add(d);
+    }
 }
 
 /// A directory that reads under bv, and another value that has two votes, or is top and anchored.
@@ -488,6 +502,125 @@ fn contested(r: &mut Random) -> Case {
         case.anchors = vec![bv.wrapping_add(d)];
     }
     case
+}
+
+/// Four to eight exact sectors, each of its own value, which are candidates by their votes; in the sectors that are left other values, which are
+/// candidates where they have as many bytes as an exact sector and are smaller, or have more.
+fn many_candidates(r: &mut Random) -> Case {
+    let mut plan = Plan::new(r);
+    let (sectors, values) = (eight_sectors(r), eight_values(r));
+    plan.bv = values[0];
+    let plain: Vec<u8> = values.iter().map(|v| v.wrapping_sub(plan.bv)).collect();
+    sectors.iter().zip(&plain).for_each(|(&s, &value)| plan.sector(s).fill(value));
+    let left = &sectors[..r.of(&[0, 1, 2, 3, 3, 4, 4, 4])];
+    if left.len() > 1 && !r.one_in(3) {
+        exchange(r, &mut plan, left);
+        own_directory(r, &mut plan, left, &plain[..left.len()]);
+    } else {
+        one_less(r, &mut plan, left, &plain);
+    }
+    if r.one_in(4) {
+        plan.rows(r.of(&[0, 0, 4, 255]));
+    }
+    if r.one_in(12) {
+        plan.off = 1 << r.below(32);
+    }
+    if r.one_in(12) {
+        plan.trailer[r.of(&RESERVED)] = 1;
+    }
+    case_of(r, plan)
+}
+
+/// In any order, the last one most often among the last four: where it is left, other values do not have an exact sector's bytes each.
+fn eight_sectors(r: &mut Random) -> Vec<usize> {
+    let mut sectors: Vec<usize> = (0..8).collect();
+    shuffle(r, &mut sectors);
+    if !r.one_in(4) {
+        let last = sectors.iter().position(|&s| s == 7).expect("it is one of the eight");
+        sectors.swap(last, r.from_to(4, 7));
+    }
+    sectors
+}
+
+/// At the ends of the range, any, or each as far from the next; most often ascending, since of equal counts the smaller value's is taken.
+fn eight_values(r: &mut Random) -> Vec<u8> {
+    let mut values: Vec<u8> = match r.below(6) {
+        0 => vec![0, 1, 2, 3, 252, 253, 254, 255],
+        1 => {
+            let mut all: Vec<u8> = (0..=255).collect();
+            shuffle(r, &mut all);
+            all[..8].to_vec()
+        }
+        _ => {
+            let (first, apart) = (r.byte(), r.from_to(1, 5) as u8);
+            (0..8).map(|k| first.wrapping_add(k * apart)).collect()
+        }
+    };
+    values.sort_unstable();
+    if r.one_in(5) {
+        shuffle(r, &mut values);
+    }
+    values
+}
+
+/// Bytes of each sector and of the next change places: no sector stays exact, and each value has as many as before.
+fn exchange(r: &mut Random, plan: &mut Plan, sectors: &[usize]) {
+    for _ in 0..r.of(&[1, 1, 10, 300]) {
+        for (k, &s) in sectors.iter().enumerate() {
+            let next = sectors[(k + 1) % sectors.len()];
+            plan.data.swap(place_in(r, s), place_in(r, next));
+        }
+    }
+}
+
+fn place_in(r: &mut Random, s: usize) -> usize {
+    let data = data_of(s);
+    r.from_to(data.start, data.end - 1)
+}
+
+fn places(sectors: &[usize]) -> Vec<usize> {
+    sectors.iter().flat_map(|&s| data_of(s)).collect()
+}
+
+/// A directory of no bytes but the sectors' own, which change places for it, so that each value has as many as before.
+fn own_directory(r: &mut Random, plan: &mut Plan, sectors: &[usize], values: &[u8]) {
+    let Some(s) = sectors.iter().find(|&&s| s < 2) else { return };
+    let pairs = values.iter().flat_map(|&high| values.iter().map(move |&low| u16::from_le_bytes([low, high])));
+    let mut list: Vec<u16> = pairs.filter(|slot| (0x20..0xFF0).contains(slot) && !r.one_in(8)).collect();
+    list.sort_unstable_by(|a, b| b.cmp(a));
+    let mut bytes = vec![0; r.of(&[4, 6])];
+    bytes[0] = r.of(&values[1..]);
+    plan.rows(bytes[0]);
+    bytes.extend(list.iter().flat_map(|slot| slot.to_le_bytes()));
+
+    let field = 512 * s + r.below(0x80);
+    let directory = field..field + bytes.len();
+    let mut others = places(sectors);
+    others.retain(|at| !directory.contains(at));
+    shuffle(r, &mut others);
+    for (at, byte) in directory.zip(bytes) {
+        let other = others.iter().find(|&&other| plan.data[other] == byte);
+        other.into_iter().for_each(|&other| plan.data.swap(at, other));
+    }
+}
+
+/// One other value less than there are sectors left, or one, so that each has bytes to spare: for noise, and for directories that read under any
+/// of the eight values.
+fn one_less(r: &mut Random, plan: &mut Plan, left: &[usize], plain: &[u8]) {
+    let (places, others) = (places(left), left.len().saturating_sub(1).max(1));
+    places.iter().enumerate().for_each(|(k, &at)| plan.data[at] = plain[k * others / places.len()]);
+    exchange(r, plan, left);
+    for &s in left {
+        for _ in 0..r.from_to(1, 20) {
+            plan.data[place_in(r, s)] = r.byte();
+        }
+    }
+    let n = r.from_to(4, 30);
+    for &s in left.iter().filter(|&&s| s < 2) {
+        let (field, d) = (512 * s + r.below(0x80), r.of(plain));
+        directory_under(r, plan, field, n, d);
+    }
+    plan.rows(n as u8);
 }
 
 fn bad_crc(r: &mut Random) -> Case {
@@ -603,8 +736,12 @@ fn replaced(r: &mut Random) -> Case {
 /// In any order.
 fn all_sectors(r: &mut Random, page: &[u8]) -> Vec<Replacement> {
     let mut all: Vec<Replacement> = page.chunks(512).map(<[u8]>::to_vec).enumerate().collect();
-    (1..all.len()).for_each(|k| all.swap(k, r.below(k + 1)));
+    shuffle(r, &mut all);
     all
+}
+
+fn shuffle<T>(r: &mut Random, all: &mut [T]) {
+    (1..all.len()).for_each(|k| all.swap(k, r.below(k + 1)));
 }
 
 /// Of two pages, sector 7 more often than others, some with a number or a length that is refused.

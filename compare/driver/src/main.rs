@@ -9,7 +9,8 @@ use compare::lent;
 use compare::shrink::{describe, shrink};
 use compare::tally::Tally;
 
-/// From so many pages on a run must reach everything. The rarest, an unallocated page, is one in some two hundred.
+/// From so many pages on a run must reach everything. The rarest, an unallocated page and one accepted strictly of eight candidates, are one in
+/// some two hundred and fifty.
 const FULL: u64 = 5_000;
 
 fn main() -> ExitCode {

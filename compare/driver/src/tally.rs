@@ -1,4 +1,5 @@
-//! How often each kind of input, question, answer, search limit, source, confidence, evidence, warning and number of tied steps was met.
+//! How often each kind of input, question, answer, search limit, source, confidence, evidence, warning, number of candidates and number of tied
+//! steps was met.
 use std::collections::BTreeMap;
 use std::fmt;
 
@@ -9,6 +10,9 @@ use crate::limits::{Class, NAMED, OUTSIDE, USUAL};
 use crate::questions::Question;
 
 type Counts<K> = BTreeMap<K, u64>;
+
+/// What comes of a page's candidates. KEYSTREAM accepts every choice.
+const CHOICES: [&str; 3] = ["accepted strictly", "refused strictly", "accepted leniently"];
 
 #[derive(Default)]
 pub struct Tally {
@@ -23,6 +27,8 @@ pub struct Tally {
     pub evidence: Counts<u8>,
     pub warnings: Counts<u8>,
     pub reasons: Counts<u8>,
+    /// How many a page has, by CHOICES: one whose decodings come to a choice counts once strictly and once leniently.
+    pub candidates: [Counts<u8>; CHOICES.len()],
     /// Of scanned sectors.
     pub tied: Counts<u16>,
 }
@@ -49,6 +55,17 @@ impl Tally {
         for fit in fits {
             *self.tied.entry(fit.tied).or_default() += 1;
         }
+    }
+
+    /// An unallocated page has no candidates, and a bad CRC or trailer is refused before they are listed.
+    pub fn choice(&mut self, lenient: bool, candidates: usize, answer: &Result<Decoded, Refusal>) {
+        let choice = match answer {
+            Ok(Decoded { bv: Some(_), .. }) if lenient => 2,
+            Ok(Decoded { bv: Some(_), .. }) => 0,
+            Err(Refusal { number: 5..=7, .. }) => 1,
+            _ => return,
+        };
+        *self.candidates[choice].entry(candidates as u8).or_default() += 1;
     }
 
     pub fn decoding(&mut self, limit: usize, question: Question, answer: &Result<Decoded, Refusal>) {
@@ -90,6 +107,7 @@ impl Tally {
         join(&mut self.evidence, other.evidence);
         join(&mut self.warnings, other.warnings);
         join(&mut self.reasons, other.reasons);
+        self.candidates.iter_mut().zip(other.candidates).for_each(|(a, b)| join(a, b));
         join(&mut self.tied, other.tied);
     }
 
@@ -112,6 +130,7 @@ impl Tally {
         want("confidence", &self.confidences, 1..=5);
         want("evidence", &self.evidence, 1..=5);
         want("warning", &self.warnings, 3..=12);
+        CHOICES.iter().zip(&self.candidates).for_each(|(choice, met)| want(&format!("candidates of pages {choice}:"), met, 7..=8));
         out.extend([1, 2, 256].iter().filter(|n| !self.tied.contains_key(n)).map(|n| format!("{n} tied steps")));
         out
     }
@@ -186,6 +205,9 @@ impl fmt::Display for Tally {
         let tables = [("reasons of 8", &self.reasons), ("sources", &self.sources), ("confidences", &self.confidences)];
         for (what, table) in tables.into_iter().chain([("evidence", &self.evidence), ("warnings", &self.warnings)]) {
             writeln!(f, "{what}\n  {}", list(table))?;
+        }
+        for (choice, met) in CHOICES.iter().zip(&self.candidates) {
+            writeln!(f, "candidates of pages {choice}\n  {}", list(met))?;
         }
         writeln!(f, "tied steps\n  {}", list(&self.tied))
     }

@@ -32,7 +32,6 @@ pub fn refusal(r: lumeviqo::Refusal) -> Refusal {
         R::SlotOffsetInDirectory { page, offset, end } => plain(12, &[page, offset, end]),
         R::BadMagic(magic) => plain(13, &[magic as u64]),
         R::BadReplacement { sector } => plain(14, &[sector as u64]),
-        R::TooManyCandidates { page } => plain(15, &[page]),
         R::NoSuchRow(row) => plain(16, &[row as u64]),
         R::LimitOutOfRange(limit) => plain(20, &[limit as u64]),
         other => no_line(other),

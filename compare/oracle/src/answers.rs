@@ -77,6 +77,10 @@ impl<'a> Reading<'a> {
         self.scanned.shifted()
     }
 
+    pub fn candidates(&self) -> Vec<u8> {
+        self.scanned.candidates()
+    }
+
     pub fn decode(&self, anchors: &[u8], bits: u8) -> Result<Decoded, Refusal> {
         let anchors: BTreeSet<u8> = anchors.iter().copied().collect();
         self.scanned.deobfuscate(&anchors, &options(bits)).map(|d| decoded(&d).with_tied(self.tied)).map_err(refusal)

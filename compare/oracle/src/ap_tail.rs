@@ -1,6 +1,7 @@
 
 /// Appended to the original's ap.rs for the comparison: a page's scan, and what `ApModel::deobfuscate` makes of it, in its order, with the
-/// anchors given instead of searched for in the block; and how many steps tied, which the original does not count.
+/// anchors given instead of searched for in the block; the candidates, of which it tells only some; and how many steps tied, which it does not
+/// count.
 pub mod reached {
     use super::*;
 
@@ -32,6 +33,11 @@ pub mod reached {
 
         pub fn shifted(&self) -> Vec<u8> {
             self.scan.sectors.iter().flat_map(|s| s.m.iter().copied()).collect()
+        }
+
+        /// What `choose_bv` chooses from. Neither anchors nor options add to it.
+        pub fn candidates(&self) -> Vec<u8> {
+            assess(&self.scan, self.page.bytes(), &BTreeSet::new()).cands.iter().map(|c| c.bv).collect()
         }
 
         pub fn deobfuscate(&self, anchors: &BTreeSet<u8>, opts: &ReadOptions) -> Result<DeobfuscatedPage> {

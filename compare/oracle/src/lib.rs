@@ -66,6 +66,11 @@ impl<'a> Reading<'a> {
         self.as_it_is.shifted()
     }
 
+    /// The values of bv that a decoding chooses from, ascending. No limit has a part in them.
+    pub fn candidates(&self) -> Vec<u8> {
+        self.as_it_is.candidates()
+    }
+
     pub fn decode(&self, anchors: &[u8], bits: u8, limit: usize) -> Result<Decoded, Refusal> {
         if limit == SEARCH_LIMIT {
             return self.as_it_is.decode(anchors, bits);

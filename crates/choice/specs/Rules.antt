@@ -113,7 +113,7 @@ ruleOne number lenient a =
     (pick (eqb (length verified) 1) (soleOf number lenient a (firstOf verified)) (ruleTwo number lenient a))
 
 -- the choice for the shifted bytes, of which there must be 4,080, at a search limit in its range; n is the stored row count. The rules read every
--- candidate: votes/specs/Eight
+-- candidate: `votes/Eight.at-most-eight`
 unfoldable pub choiceOf : ℕ → List ℕ → List ℕ → ℕ → Options → Choice
 choiceOf number shifted anchors n o =
     pick (eqb (length shifted) 4080)

@@ -45,9 +45,9 @@ pub and-right : (a b : Bool) → (a && b) ≡ true → b ≡ true
 and-right true b e = e
 and-right false b e = absurd (never-both refl e)
 
-pub or-true : (P : Type 0) (a b : Bool) → (a || b) ≡ true → (a ≡ true → P) → (b ≡ true → P) → P
-or-true P true b e f g = f refl
-or-true P false b e f g = g e
+pub or-case : (P : Type 0) (a b : Bool) → (a || b) ≡ true → (a ≡ true → P) → (b ≡ true → P) → P
+or-case P true b e f g = f refl
+or-case P false b e f g = g e
 
 pub or-no-left : (a b : Bool) → (a || b) ≡ false → a ≡ false
 or-no-left true b e = e

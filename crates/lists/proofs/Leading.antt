@@ -11,7 +11,7 @@ use lib.Dec.{eqb, ltb}
 use Rattle.lists.specs.Counts.{howMany}
 use Rattle.lists.proofs.Booleans.{or-no-left, or-no-right}
 use Rattle.lists.proofs.Picks.{never-both}
-use Rattle.lists.proofs.Many.{many-zero, many-one, many-either, many-left}
+use Rattle.lists.proofs.Many.{many-zero, many-one, many-either, many-beyond}
 
 module _ (f : ℕ → ℕ) (n m : ℕ) (apart : (u v : ℕ) → u < n → v < n → f u ≡ f v → u ≡ v) where
   abbrev leads : ℕ → Bool
@@ -24,7 +24,7 @@ module _ (f : ℕ → ℕ) (n m : ℕ) (apart : (u v : ℕ) → u < n → v < n 
       let few : howMany (λ w. ltb (f v) (f w)) n < m = ltb-true (howMany (λ w. ltb (f v) (f w)) n) m e in
       let one : howMany (λ w. eqb w v) n ≤ 1 = many-one (λ w. eqb w v) n v (λ w q. ne-eqb w v) in
       let both : howMany (λ w. ltb (f v) (f w) || eqb w v) n ≤ m = omega (arith, many-either (λ w. ltb (f v) (f w)) (λ w. eqb w v) n) in
-      many-left leads (λ w. ltb (f v) (f w) || eqb w v) ⊥ n (omega arith)
+      many-beyond leads (λ w. ltb (f v) (f w) || eqb w v) ⊥ n (omega arith)
       (λ u hu q r.
       let other : u ≡ v → ⊥ = λ s. never-both (or-no-right (ltb (f v) (f u)) (eqb u v) r) (eq-eqb u v s) in
       let below : f u ≤ f v = ltb-false (f v) (f u) (or-no-left (ltb (f v) (f u)) (eqb u v) r) in
@@ -38,5 +38,5 @@ module _ (f : ℕ → ℕ) (n m : ℕ) (apart : (u v : ℕ) → u < n → v < n 
       go (no l) = omega arith
       go (yes more) =
           absurd
-          (many-left leads (λ v. false) ⊥ n (omega (arith, many-zero (λ v. false) n (λ k l. refl)))
+          (many-beyond leads (λ v. false) ⊥ n (omega (arith, many-zero (λ v. false) n (λ k l. refl)))
           (λ v h e q. descend more (f v + 1) v h e (omega arith)))

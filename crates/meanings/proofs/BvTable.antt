@@ -16,7 +16,7 @@ use Rattle.lists.proofs.Picks.{pick-gt}
 use Rattle.answers.specs.Answers.{noBvs, withBv}
 use Rattle.answers.specs.declared.kinds.Bvs.{Bvs}
 use Rattle.votes.specs.Votes.{candidateOf}
-use Rattle.votes.specs.Eight.{valuesOf}
+use Rattle.votes.specs.Eight.{bvsIn}
 use Rattle.votes.specs.declared.Candidate.{Candidate}
 use Rattle.votes.proofs.Meaning.{Rises, among-rises, among-has, map-among}
 use Rattle.groups.specs.Groups.{andBv, bvsOf}
@@ -50,12 +50,12 @@ holding-more table l v h k =
     })
 
 holding-all :
-    (l : List Candidate) (front : List ℕ) (table : Bvs) → Holding table front → length front + length l ≤ 8 → Holding (fold andBv table l) (front ++ valuesOf l)
+    (l : List Candidate) (front : List ℕ) (table : Bvs) → Holding table front → length front + length l ≤ 8 → Holding (fold andBv table l) (front ++ bvsIn l)
 unfolding fold
 holding-all [] front table h k = subst (Holding table) (sym (append-nil front)) h
 holding-all (c ∷ l) front table h k =
     let next : Holding (withBv table (c .bv)) (front ++ (c .bv ∷ [])) = holding-more table front (c .bv) h (omega arith) in
-    subst (Holding (fold andBv (withBv table (c .bv)) l)) (append-assoc front (c .bv ∷ []) (valuesOf l))
+    subst (Holding (fold andBv (withBv table (c .bv)) l)) (append-assoc front (c .bv ∷ []) (bvsIn l))
     (holding-all l (front ++ (c .bv ∷ [])) (withBv table (c .bv)) next (omega (arith, length-append front (c .bv ∷ []))))
 
 -- a table that holds those that pass a test lists them
@@ -78,7 +78,7 @@ lists-held p table h =
     at i q = sym (each-at (byteAt (table .items)) (table .len) i 0 q) ∙ ap (λ (l : List ℕ). byteAt l i) (h .list)
 
 module _ (lim : ℕ) (shifted anchors : List ℕ) (n t : ℕ) (p : ℕ → Bool) where
-  values-made : valuesOf (among p (made lim shifted anchors n t) 256) ≡ among p (λ v. v) 256
+  values-made : bvsIn (among p (made lim shifted anchors n t) 256) ≡ among p (λ v. v) 256
   unfolding candidateOf
   values-made = map-among (λ (c : Candidate). c .bv) p (made lim shifted anchors n t) 256
 

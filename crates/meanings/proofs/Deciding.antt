@@ -10,13 +10,13 @@ use lib.Dec.{eqb, ltb}
 use Rattle.lists.specs.Bytes.{plainOf}
 use Rattle.lists.specs.Counts.{isIn}
 use Rattle.lists.proofs.Booleans.{and-yes, and-left, and-right, and-not-both}
-use Rattle.lists.proofs.Many.{many-zero}
+use Rattle.lists.proofs.Many.{many-zero, many-some}
 use Rattle.lists.proofs.Picks.{never-both}
 use Rattle.slots.specs.Slots.{rowCountMatches}
 use Rattle.votes.specs.Votes.{isVerified}
 use Rattle.meanings.specs.Values.{isExact, exactSectors, votesFor, standsFor}
 use Rattle.meanings.specs.Sources.{Other, verifiedNumber, NoneVerified, topValue, isStrong, isDisputed, disputedNumber, SoleVerified}
-use Rattle.meanings.proofs.Passing.{some-pass, all-equal, First, first-passes}
+use Rattle.meanings.proofs.Passing.{all-equal, First, first-passes}
 use Rattle.meanings.proofs.Voting.{votes-apart}
 use Rattle.meanings.proofs.Outcomes.{disputed-one, disputed-voted, disputed-stands}
 
@@ -59,7 +59,7 @@ module _ (lim : ℕ) (shifted anchors : List ℕ) (n t : ℕ) where
     sole-number =
         omega (
           arith,
-          some-pass standsTested 256 bv (q .stands .byte) (and-yes (standsFor shifted bv) (tested bv) (q .stands .candidate) sole-verified),
+          many-some standsTested 256 bv (q .stands .byte) (and-yes (standsFor shifted bv) (tested bv) (q .stands .candidate) sole-verified),
           all-equal standsTested 256 (λ j k l m e f. sole-is j l e ∙ sym (sole-is k m f)),
         )
 

@@ -14,7 +14,7 @@ use Rattle.lists.specs.Counts.{howMany, isIn}
 use Rattle.lists.specs.Pieces.{among, keep}
 use Rattle.lists.proofs.Among.{among-length}
 use Rattle.lists.proofs.Booleans.{not-true, and-yes, and-left, and-right, or-no-left, or-no-right, or-yes-right}
-use Rattle.lists.proofs.Many.{many-zero, many-weaker}
+use Rattle.lists.proofs.Many.{many-zero, many-some, many-weaker}
 use Rattle.lists.proofs.Picks.{pick-case, never-both}
 use Rattle.answers.specs.Answers.{noBvs}
 use Rattle.answers.specs.Settings.{keystream, limitFits}
@@ -39,7 +39,7 @@ use Rattle.meanings.specs.Values.{exactSectors, votesFor, standsFor}
 use Rattle.meanings.specs.Sources.{Stands, Other, verifiedNumber, NoneVerified, isStrong, isDisputed, disputedNumber}
 use Rattle.meanings.specs.Sources.{comesBefore, Lists, Corroborates, Meaning}
 use Rattle.meanings.proofs.Values.{ballots-number}
-use Rattle.meanings.proofs.Passing.{some-pass, none-pass, only-one, both-pass, among-ext, kept-among, First, first-passes}
+use Rattle.meanings.proofs.Passing.{none-pass, only-one, both-pass, among-ext, kept-among, First, first-passes}
 use Rattle.meanings.proofs.Voting.{voted-stands, vote-alone, none-exact, all-agree, votes-apart}
 use Rattle.meanings.proofs.Standing.{made, assessment, group-as}
 use Rattle.meanings.proofs.Standing.{made-bv, made-verified, made-votes, made-voted, made-rival, made-contest, made-supported, made-outranks}
@@ -187,7 +187,7 @@ module _ (number : ℕ) (shifted anchors : List ℕ) (n : ℕ) (o : Options) (lo
       let e : group (Only (a .top)) a ≡ among p make 256 = group-as lim shifted anchors n t long (Only top) p (λ v h. refl) in
       let r : First make p blankCandidate 256 =
       first-passes make p blankCandidate 256
-      (some-pass p 256 top (top-stands .byte) (and-yes (standsFor shifted top) (eqb top top) (top-stands .candidate) (eq-eqb top top refl))) in
+      (many-some p 256 top (top-stands .byte) (and-yes (standsFor shifted top) (eqb top top) (top-stands .candidate) (eq-eqb top top refl))) in
       ap firstOf e ∙ r .first ∙ ap make (eqb-true (r .at) top (and-right (standsFor shifted (r .at)) (eqb (r .at) top) (r .passes)))
 
   abbrev backed : ℕ → Bool

@@ -1,10 +1,9 @@
 -- Laws of the numbers that pass a test: none, one, or two of them, the first, and those that pass a second test too. Assumes nothing.
 use Prim.Native.Nat.{ℕ, zero, suc, _+_, _≤_, _<_, zero-le}
-use mathlib.Core.Path.{_≡_, refl, sym, ap, ap₂, _∙_}
+use mathlib.Core.Path.{_≡_, refl, ap, ap₂, _∙_}
 use mathlib.Core.Bool.{Bool, true, false, _&&_}
 use mathlib.Core.List.{List, [], _∷_, _++_}
-use mathlib.Core.Logic.{⊎-elim}
-use native.Mathlib.Nat.{le-of-suc-le-suc, not-suc-le-zero, eq-or-lt-of-le}
+use native.Mathlib.Nat.{not-suc-le-zero}
 use native.Mathlib.Omega.{arith}
 use lib.ListN.{getD, List·getD-append}
 use lib.Seq.{getD-at}
@@ -14,30 +13,16 @@ use Rattle.lists.specs.Pieces.{among, keep}
 use Rattle.lists.proofs.Among.{among-length}
 use Rattle.lists.proofs.Booleans.{not-true}
 use Rattle.lists.proofs.Keep.{keep-append}
-use Rattle.lists.proofs.Many.{many-zero}
+use Rattle.lists.proofs.Many.{many-zero, many-some, many-two}
 use Rattle.votes.proofs.Tests.{lt-cases}
 
 module _ (p : ℕ → Bool) where
-  pub some-pass : (n k : ℕ) → k < n → p k ≡ true → 0 < howMany p n
-  unfolding howMany
-  some-pass zero k h e = absurd (not-suc-le-zero h)
-  some-pass (suc n) k h e =
-      ⊎-elim (λ q. let f : p n ≡ true = ap p (sym q) ∙ e in omega (arith, ap flag f)) (λ l. omega (arith, some-pass n k l e))
-      (eq-or-lt-of-le (le-of-suc-le-suc h))
-
   pub none-pass : (n : ℕ) → howMany p n ≡ 0 → (k : ℕ) → k < n → p k ≡ false
-  none-pass n e k h = not-true (p k) (λ t. omega (arith, some-pass n k h t))
-
-  two-pass : (n j k : ℕ) → j < k → k < n → p j ≡ true → p k ≡ true → 2 ≤ howMany p n
-  unfolding howMany
-  two-pass zero j k q h e f = absurd (not-suc-le-zero h)
-  two-pass (suc n) j k q h e f =
-      ⊎-elim (λ r. let g : p n ≡ true = ap p (sym r) ∙ f in omega (arith, ap flag g, some-pass n j (omega arith) e))
-      (λ l. omega (arith, two-pass n j k q l e f)) (eq-or-lt-of-le (le-of-suc-le-suc h))
+  none-pass n e k h = not-true (p k) (λ t. omega (arith, many-some p n k h t))
 
   pub both-pass : (n j k : ℕ) → j < n → k < n → (j ≡ k → ⊥) → p j ≡ true → p k ≡ true → 2 ≤ howMany p n
   both-pass n j k l h d e f =
-      lt-cases (2 ≤ howMany p n) j k (λ q. two-pass n j k q h e f) (λ q. two-pass n k j (omega arith) l f e)
+      lt-cases (2 ≤ howMany p n) j k (λ q. many-two p n j k q h e f) (λ q. many-two p n k j (omega arith) l f e)
 
   pub only-one : (n k : ℕ) → howMany p n ≤ 1 → k < n → p k ≡ true → (j : ℕ) → j < n → (j ≡ k → ⊥) → p j ≡ false
   only-one n k one h e j l d = not-true (p j) (λ t. omega (arith, both-pass n j k l h d t e))

@@ -9,11 +9,10 @@ use lib.Dec.{eqb}
 use lib.ListN.{length}
 use Rattle.lists.specs.Bytes.{byteAt, AllBytes}
 use Rattle.lists.proofs.Booleans.{not-true, and-yes, and-left, and-right}
-use Rattle.lists.proofs.Many.{many-zero, many-ext, many-weaker}
+use Rattle.lists.proofs.Many.{many-zero, many-some, many-ext, many-weaker}
 use Rattle.votes.specs.Votes.{countsOf, ballots, isCommon, isCandidate}
 use Rattle.meanings.specs.Values.{isExact, exactValue, exactSectors, votesFor, dissentFrom, standsFor}
 use Rattle.meanings.proofs.Values.{ballots-at, exact-parted}
-use Rattle.meanings.proofs.Passing.{some-pass}
 
 module _ (shifted : List ℕ) where
   pub voted-stands : (v : ℕ) → v < 256 → 0 < votesFor shifted v → standsFor shifted v ≡ true
@@ -27,7 +26,7 @@ module _ (shifted : List ℕ) where
   pub value-voted : (s v : ℕ) → s < 8 → isExact shifted s ≡ true → exactValue shifted s ≡ v → 0 < votesFor shifted v
   unfolding votesFor
   value-voted s v h x e =
-      some-pass (λ s. isExact shifted s && eqb (exactValue shifted s) v) 8 s h
+      many-some (λ s. isExact shifted s && eqb (exactValue shifted s) v) 8 s h
       (and-yes (isExact shifted s) (eqb (exactValue shifted s) v) x (eq-eqb (exactValue shifted s) v e))
 
   -- where a value alone is voted for, every exact sector votes for it

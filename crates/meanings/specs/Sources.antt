@@ -41,7 +41,7 @@ pub record Other (shifted : List ℕ) (bv v : ℕ) : Type 0 where
   pub stands : Stands shifted v
   pub differs : v ≡ bv → ⊥
 
--- how many of them are verified
+-- how many candidates are verified
 unfoldable pub verifiedNumber : ℕ → List ℕ → ℕ → ℕ → ℕ
 verifiedNumber lim shifted n t = howMany (λ v. standsFor shifted v && isVerified lim shifted n t v) 256
 

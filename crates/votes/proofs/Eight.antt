@@ -1,6 +1,6 @@
 -- Request #107: no 4,080 bytes have more than eight candidates, so that the table of eight holds them all. A voted value fills a sector, so it has 496
--- bytes or more. With three voted values or fewer there are at most those and the four commonest. With four or more, each of the four commonest is as
--- common as one of them, so that every candidate has 496 bytes; and nine would need 4,464. Assumes nothing.
+-- bytes or more. With three voted values or fewer there are at most those and the four commonest. With four or more, each of the four commonest is at
+-- least as common as one of them, so that every candidate has 496 bytes or more; and nine would need 4,464. Assumes nothing.
 use Prim.Native.Nat.{ℕ, _-_, _*_, _≤_, _<_, min}
 use mathlib.Core.Path.{_≡_, sym, ap, _∙_, subst}
 use mathlib.Core.Bool.{Bool, true, false}
@@ -13,11 +13,11 @@ use lib.ListN.{length, length-map, List·getD-map}
 use Rattle.lists.specs.Bytes.{byteAt}
 use Rattle.lists.specs.Counts.{count, howMany, allSame, isIn}
 use Rattle.lists.proofs.Among.{among-length, among-met}
-use Rattle.lists.proofs.Booleans.{and-right, or-true}
+use Rattle.lists.proofs.Booleans.{and-right, or-case}
 use Rattle.lists.proofs.Count.{count-part}
 use Rattle.lists.proofs.Each.{each-at}
 use Rattle.lists.proofs.Leading.{few-lead}
-use Rattle.lists.proofs.Many.{many-weaker, many-either, many-left}
+use Rattle.lists.proofs.Many.{many-weaker, many-either, many-beyond}
 use Rattle.lists.proofs.Same.{same-count}
 use Rattle.lists.proofs.Sums.{sum-many, sum-counts}
 use Rattle.summary.specs.Page.{part, sectorEnd}
@@ -25,7 +25,7 @@ use Rattle.summary.proofs.Parts.{part-length, part-at}
 use Rattle.votes.specs.declared.Candidate.{Candidate}
 use Rattle.votes.specs.declared.Candidates.{Candidates}
 use Rattle.votes.specs.Votes.{countsOf, ballots, beats, isCommon, isCandidate, candidateOf, candidatesBelow, places, blankCandidate, candidateAt, listed, assessmentOf}
-use Rattle.votes.specs.Eight.{valuesOf, HasEach, AtMostEight}
+use Rattle.votes.specs.Eight.{bvsIn, HasEach, AtMostEight}
 use Rattle.votes.proofs.Tests.{lt-cases}
 use Rattle.votes.proofs.Keys.{keyAt, beats-key, many-beat}
 use Rattle.votes.proofs.CandidateTable.{Holds, holds-listed, tabled-holds}
@@ -49,8 +49,8 @@ module _ (counts : List ℕ) where
       )
 
   -- a value that does not beat another is no commoner
-  unbeaten : (w v : ℕ) → w < 256 → v < 256 → beats counts w v ≡ false → byteAt counts w ≤ byteAt counts v
-  unbeaten w v h k e =
+  no-commoner : (w v : ℕ) → w < 256 → v < 256 → beats counts w v ≡ false → byteAt counts w ≤ byteAt counts v
+  no-commoner w v h k e =
       let below : keyAt counts w ≤ keyAt counts v = ltb-false (keyAt counts v) (keyAt counts w) (sym (beats-key counts w v h k) ∙ e) in
       omega arith
 
@@ -84,18 +84,18 @@ module _ (shifted : List ℕ) (long : length shifted ≡ 4080) where
   voted-fills v h e =
       among-met (λ s. allSame (part s shifted)) (λ s. byteAt shifted (s * 512)) v (496 ≤ count v shifted) 8
       (omega (arith, ltb-true 0 (byteAt votes v) e, counts-at (ballots shifted) v h))
-      (λ s k x q. subst (λ (w : ℕ). 496 ≤ count w shifted) (sym q) (sector-filled s k x))
+      (λ s k x q. subst (λ (w : ℕ). 496 ≤ count w shifted) q (sector-filled s k x))
 
-  -- where four or more are voted for, one of them does not beat a common value, which is then as common
+  -- where four or more are voted for, one of them does not beat a common value, which is then at least as common
   common-fills : 4 ≤ howMany isVoted 256 → (v : ℕ) → v < 256 → isCommon counts v ≡ true → 496 ≤ count v shifted
   common-fills four v h e =
-      many-left isVoted (λ w. beats counts w v) (496 ≤ count v shifted) 256 (omega (arith, few-before counts v e))
+      many-beyond isVoted (λ w. beats counts w v) (496 ≤ count v shifted) 256 (omega (arith, few-before counts v e))
       (λ w k q r.
-      omega (arith, unbeaten counts w v k h r, voted-fills w k q, counts-at shifted w k, counts-at shifted v h))
+      omega (arith, no-commoner counts w v k h r, voted-fills w k q, counts-at shifted w k, counts-at shifted v h))
 
   candidate-fills : 4 ≤ howMany isVoted 256 → (v : ℕ) → v < 256 → isCandidate counts votes v ≡ true → 496 ≤ count v shifted
   unfolding isCandidate
-  candidate-fills four v h e = or-true (496 ≤ count v shifted) (isVoted v) (isCommon counts v) e (voted-fills v h) (common-fills four v h)
+  candidate-fills four v h e = or-case (496 ≤ count v shifted) (isVoted v) (isCommon counts v) e (voted-fills v h) (common-fills four v h)
 
   pub few-candidates : howMany (isCandidate counts votes) 256 ≤ 8
   unfolding isCandidate
@@ -111,9 +111,12 @@ module _ (shifted : List ℕ) (long : length shifted ≡ 4080) where
     abbrev table : Candidates
     table = assessmentOf lim shifted anchors n t .candidates
 
-    number : length all ≤ 8
+    all-number : length all ≡ howMany (isCandidate counts votes) 256
     unfolding candidatesBelow
-    number = omega (arith, among-length (isCandidate counts votes) (candidateOf lim shifted anchors n t) 256, few-candidates)
+    all-number = among-length (isCandidate counts votes) (candidateOf lim shifted anchors n t) 256
+
+    number : length all ≤ 8
+    number = omega (arith, all-number, few-candidates)
 
     -- ---- the table holds them
 
@@ -124,23 +127,25 @@ module _ (shifted : List ℕ) (long : length shifted ≡ 4080) where
     pub table-whole : listed table ≡ all
     table-whole = holds-listed table all held number
 
-    value-at : (i : ℕ) → i < table .len → byteAt (valuesOf (listed table)) i ≡ candidateAt table i .bv
-    value-at i h =
+    size : length (bvsIn (listed table)) ≡ table .len
+    size = length-map (listed table) (λ (c : Candidate). c .bv) ∙ ap length table-whole ∙ sym (held .number)
+
+    bv-at : (i : ℕ) → i < table .len → byteAt (bvsIn (listed table)) i ≡ candidateAt table i .bv
+    bv-at i h =
         List·getD-map (λ (c : Candidate). c .bv) (listed table) i blankCandidate
         ∙ ap (λ (c : Candidate). c .bv) (each-at (candidateAt table) (min (table .len) places) i blankCandidate (omega (arith, held .number, number)))
 
-    rises : Rises 256 (valuesOf (listed table))
-    rises = subst (λ (l : List Candidate). Rises 256 (valuesOf l)) (sym table-whole) (candidates-rise lim shifted anchors n t 256)
+    rises : Rises 256 (bvsIn (listed table))
+    rises = subst (λ (l : List Candidate). Rises 256 (bvsIn l)) (sym table-whole) (candidates-rise lim shifted anchors n t 256)
 
     each-once : HasEach shifted table
     each-once =
         record {
-          ascending = λ i j q h. omega (arith, value-at i (omega arith), value-at j h, rises .strictly i j q (omega (arith, size)));
-          just = λ v h. ap (λ (l : List Candidate). isIn v (valuesOf l)) table-whole ∙ candidates-just lim shifted anchors n t 256 v h;
+          number = held .number ∙ all-number;
+          within = λ i h. omega (arith, bv-at i h, rises .within i (omega (arith, size)));
+          ascending = λ i j q h. omega (arith, bv-at i (omega arith), bv-at j h, rises .strictly i j q (omega (arith, size)));
+          just = λ v h. ap (λ (l : List Candidate). isIn v (bvsIn l)) table-whole ∙ candidates-just lim shifted anchors n t 256 v h;
         }
-      where
-        size : length (valuesOf (listed table)) ≡ table .len
-        size = length-map (listed table) (λ (c : Candidate). c .bv) ∙ ap length table-whole ∙ sym (held .number)
 
 -- THERE ARE AT MOST EIGHT CANDIDATES, and the table that the rules read holds them all
 pub at-most-eight : AtMostEight

@@ -18,11 +18,11 @@ use Rattle.lists.proofs.Booleans.{or-nothing, or-yes-right}
 use Rattle.lists.proofs.Picks.{pick-test}
 use Rattle.lists.proofs.Count.{count-here}
 use Rattle.lists.proofs.Each.{each-at}
-use Rattle.lists.proofs.Many.{many-ext}
+use Rattle.lists.proofs.Many.{many-zero}
 use Rattle.lists.proofs.Greatest.{greatest-above}
 use Rattle.votes.specs.declared.Candidate.{Candidate}
 use Rattle.votes.specs.Votes.{countsOf, ballots, beats, topOf, isCommon, isCandidate, candidateOf, candidatesBelow}
-use Rattle.votes.specs.Eight.{valuesOf}
+use Rattle.votes.specs.Eight.{bvsIn}
 use Rattle.votes.proofs.Tests.{lt-cases}
 use Rattle.votes.proofs.Keys.{keyAt, beats-key, top-met}
 
@@ -126,17 +126,17 @@ module _ (g : Candidate → ℕ) where
       ∙ ap₂ (λ (l m : List ℕ). l ++ m) (map-among p f n) (map-one (p n) (f n))
 
 module _ (lim : ℕ) (shifted anchors : List ℕ) (n t bound : ℕ) where
-  values-are : valuesOf (candidatesBelow lim shifted anchors n t bound) ≡ among (isCandidate (countsOf shifted) (countsOf (ballots shifted))) (λ v. v) bound
+  values-are : bvsIn (candidatesBelow lim shifted anchors n t bound) ≡ among (isCandidate (countsOf shifted) (countsOf (ballots shifted))) (λ v. v) bound
   unfolding candidatesBelow candidateOf
   values-are = map-among (λ (c : Candidate). c .bv) (isCandidate (countsOf shifted) (countsOf (ballots shifted))) (candidateOf lim shifted anchors n t) bound
 
-  pub candidates-rise : Rises bound (valuesOf (candidatesBelow lim shifted anchors n t bound))
+  pub candidates-rise : Rises bound (bvsIn (candidatesBelow lim shifted anchors n t bound))
   candidates-rise = subst (Rises bound) (sym values-are) (among-rises (isCandidate (countsOf shifted) (countsOf (ballots shifted))) bound)
 
   pub candidates-just :
       (v : ℕ)
       → v < bound
-      → isIn v (valuesOf (candidatesBelow lim shifted anchors n t bound)) ≡ isCandidate (countsOf shifted) (countsOf (ballots shifted)) v
+      → isIn v (bvsIn (candidatesBelow lim shifted anchors n t bound)) ≡ isCandidate (countsOf shifted) (countsOf (ballots shifted)) v
   candidates-just v h =
       ap (isIn v) values-are
       ∙ among-has (isCandidate (countsOf shifted) (countsOf (ballots shifted))) bound v
@@ -146,18 +146,13 @@ module _ (lim : ℕ) (shifted anchors : List ℕ) (n t bound : ℕ) where
   pub candidates-are :
       (v : ℕ)
       → v < bound
-      → isIn v (valuesOf (candidatesBelow lim shifted anchors n t bound))
+      → isIn v (bvsIn (candidatesBelow lim shifted anchors n t bound))
       ≡ (ltb 0 (byteAt (countsOf (ballots shifted)) v)
       || (ltb 0 (byteAt (countsOf shifted) v) && ltb (howMany (λ w. beats (countsOf shifted) w v) 256) 4))
   unfolding isCandidate isCommon
   candidates-are v h = candidates-just v h
 
 -- no value beats the top; and where a value occurs, the top occurs and is a candidate
-none-pass : (n : ℕ) → howMany (λ w. false) n ≡ 0
-unfolding howMany
-none-pass zero = refl
-none-pass (suc n) = omega (arith, none-pass n)
-
 module _ (counts : List ℕ) where
   pub top-byte : topOf counts < 256
   top-byte = top-met counts (topOf counts < 256) (λ k h q e. omega arith)
@@ -173,8 +168,7 @@ module _ (counts : List ℕ) where
   pub top-common : (v : ℕ) → v < 256 → 0 < byteAt counts v → isCommon counts (topOf counts) ≡ true
   unfolding isCommon
   top-common v h k =
-      let few : howMany (λ w. beats counts w (topOf counts)) 256 ≡ 0 =
-      many-ext (λ w. beats counts w (topOf counts)) (λ w. false) 256 top-unbeaten ∙ none-pass 256 in
+      let few : howMany (λ w. beats counts w (topOf counts)) 256 ≡ 0 = many-zero (λ w. beats counts w (topOf counts)) 256 top-unbeaten in
       let occurs : 0 < byteAt counts (topOf counts) =
       top-met counts (0 < byteAt counts (topOf counts))
       (λ m l q e. omega (arith, ap (byteAt counts) e, greatest-above (keyAt counts) 256 v h)) in

@@ -5,12 +5,12 @@ use mathlib.Core.List.{List, [], _∷_, _++_}
 use native.Mathlib.Decide.{ℕ-discrete}
 use native.Mathlib.Numerals.{add-one}
 use native.Mathlib.Omega.{arith}
-use lib.ListN.{length, getD, set, take, drop, replicate, length-take, length-drop, length-set, take-append-drop}
+use lib.ListN.{length, getD, set, take, drop, replicate, length-take, length-drop, length-set}
 use lib.Seq.{take-suc, take-all, getD-drop, drop-drop, getD-set-same, getD-set-other, ext-getD}
 use Rattle.lists.specs.Bytes.{byteAt}
 use Rattle.lists.specs.Counts.{count, Tallies}
 use Rattle.lists.specs.Pieces.{each}
-use Rattle.lists.proofs.Count.{count-append, tallies-none, tallies-more, tallies-le}
+use Rattle.lists.proofs.Count.{count-halves, tallies-none, tallies-more, tallies-le}
 use Rattle.lists.proofs.Each.{each-length, each-at, each-ext}
 use Rattle.votes.specs.Votes.{countsOf}
 use Rattle.votes.specs.CountTables.{Tallied, Quarters, AtMost, sumsOf}
@@ -69,11 +69,8 @@ module _ (f : ℕ → ℕ) where
 
 -- a value's count is the sum of its counts in the parts
 module _ (v : ℕ) where
-  pub count-halves : (n : ℕ) (xs : List ℕ) → count v xs ≡ count v (take n xs) + count v (drop n xs)
-  count-halves n xs = ap (count v) (sym (take-append-drop n xs)) ∙ count-append v (take n xs) (drop n xs)
-
   rest : (xs : List ℕ) (a b : ℕ) → count v (drop a xs) ≡ count v (take b (drop a xs)) + count v (drop (a + b) xs)
-  rest xs a b = count-halves b (drop a xs) ∙ ap (λ (l : List ℕ). count v (take b (drop a xs)) + count v l) (drop-drop b a xs)
+  rest xs a b = count-halves v b (drop a xs) ∙ ap (λ (l : List ℕ). count v (take b (drop a xs)) + count v l) (drop-drop b a xs)
 
   pub count-quarters :
       (q : ℕ) (xs : List ℕ)
@@ -82,7 +79,7 @@ module _ (v : ℕ) where
       ≡ count v (take q xs) + count v (take q (drop q xs)) + (count v (take q (drop (q + q) xs)) + count v (take q (drop (q + q + q) xs)))
   count-quarters q xs e =
       let last : take q (drop (q + q + q) xs) ≡ drop (q + q + q) xs = take-all q (drop (q + q + q) xs) (omega (arith, length-drop (q + q + q) xs)) in
-      omega (arith, count-halves q xs, rest xs q q, rest xs (q + q) q, ap (count v) last)
+      omega (arith, count-halves v q xs, rest xs q q, rest xs (q + q) q, ap (count v) last)
 
 pub sums-count :
     (xs a b c d : List ℕ)

@@ -60,7 +60,7 @@ candidateOf lim shifted anchors n t v =
 unfoldable pub candidatesBelow : ℕ → List ℕ → List ℕ → ℕ → ℕ → ℕ → List Candidate
 candidatesBelow lim shifted anchors n t bound = among (isCandidate (countsOf shifted) (countsOf (ballots shifted))) (candidateOf lim shifted anchors n t) bound
 
--- the table of candidates; a full one stays as it is, and AtMostEight says that none is ever turned away
+-- the table of candidates has eight places; a full one stays as it is, and `Eight.AtMostEight` says that no candidate is ever turned away
 abbrev pub places : ℕ
 places = 8
 

@@ -2,12 +2,13 @@
 //! has no counterpart (lengths of lent buffers, replacement, row numbers, limits out of range) from documents 01 and 02, and tied steps from the
 //! count behind its ap.rs. A question is taken where it shows something that none before it does: a function's answer or reason, a source with
 //! its confidence, a row of evidence, a kind of warning, a type of page; at another search limit, that this decides whether a page is accepted;
-//! and, on pages that are made for it, how many steps tied, where a directory lies and how long it is, or which sector comes to it.
+//! and, on pages that are made for it, how many steps tied, where a directory lies and how long it is, which sector comes to it, or how many
+//! candidates it has.
 use std::collections::BTreeSet;
 use std::fs::write;
 use std::path::Path;
 
-use compare::kinds::{Case, Replacement, case, recrc, write_sector};
+use compare::kinds::{Case, KINDS, Kind, MANY_CANDIDATES, Replacement, case_among, recrc, write_sector};
 use compare::layouts;
 use compare::limits::{self, Class, GREATEST, OUTSIDE, USUAL};
 use compare::plan::{DATA, Plan, put, triangular};
@@ -30,7 +31,6 @@ enum Asked {
     RowCount,
     Row,
     Rows,
-    TooMany,
     SuppliedSummary,
 }
 
@@ -111,15 +111,17 @@ fn main() {
     };
     let seed = seed.parse().expect("SEED is a number");
     let mut frozen = Frozen::default();
+    // Apart, so that the questions of the other kinds stay as they are.
+    let (many, others): (Vec<Kind>, Vec<Kind>) = KINDS.iter().partition(|kind| kind.0 == MANY_CANDIDATES);
     for index in 0..6_000 {
-        let case = case(seed, index);
+        let case = case_among(&others, seed, index);
         fields(&case, &mut frozen);
         page_and_rows(&case, &mut frozen);
     }
     ties().iter().for_each(|case| whole_page(case, &mut frozen));
     wide().iter().for_each(|case| page_and_rows(case, &mut frozen));
     trailers().iter().for_each(|case| whole_page(case, &mut frozen));
-    too_many(&case(seed, 0), &mut frozen);
+    (0..1_000).map(|index| case_among(&many, seed, index)).for_each(|case| whole_page(&case, &mut frozen));
     println!("{} questions, which show {} things", frozen.questions, frozen.shown.len());
     write(Path::new(folder).join("stdin"), frozen.stdin).expect("FOLDER/stdin can be written");
     write(Path::new(folder).join("stdout"), frozen.stdout).expect("FOLDER/stdout can be written");
@@ -281,10 +283,10 @@ fn tied(case: &Case, fits: &[Fit; 8]) -> Option<String> {
     (case.kind == TIES).then(|| format!("tied {:?}", fits.map(|f| f.tied)))
 }
 
-/// Answer 15, which no page gives.
-fn too_many(case: &Case, frozen: &mut Frozen) {
-    let answer = Err(refused(15, case.number as usize));
-    frozen.take(about(Asked::TooMany, case, &[]), Expected { line: hex(&layouts::integrity(&answer)), shows: vec![number(&answer)] });
+/// How many candidates there were, and what came of them; a bad CRC or trailer is refused before they are listed.
+fn of_many(case: &Case, candidates: &[u8], answer: &Result<Decoded, Refusal>) -> Option<String> {
+    let listed = !matches!(answer, Err(Refusal { number: 3 | 4, .. }));
+    (case.kind == MANY_CANDIDATES && listed).then(|| format!("{} of {} candidates", number(answer), candidates.len()))
 }
 
 /// CRC, trailer, integrity, superblock; on lengths that are no page's too.
@@ -330,7 +332,8 @@ fn whole_page(case: &Case, frozen: &mut Frozen) {
     }
 
     let answer = reading.decode(&case.anchors, case.bits, USUAL);
-    let shows = decoding_shows(case, &answer).into_iter().chain(of_trailers(case, "decoding")).collect();
+    let of_kind = of_trailers(case, "decoding").into_iter().chain(of_many(case, &reading.candidates(), &answer));
+    let shows = decoding_shows(case, &answer).into_iter().chain(of_kind).collect();
     frozen.take(about(Asked::Decoding, case, page), Expected { line: decoding_line(&answer, 4096), shows });
     let other = reading.decode(&case.anchors, case.bits, case.limit);
     frozen.take_at_limits(about(Asked::Decoding, case, page), standing(&answer), [&answer, &other], |a| decoding_line(a, 4096));
