@@ -26,7 +26,7 @@ pub(crate) fn rescan(
         let start = s * 512;
         let end = sector_end(s);
         let offset = sector::ap_offset(number, s as u8);
-        let fit = sector::scan_sector(&stored[start..end], offset, &mut shifted[start..end]);
+        let fit = quick::scan_sector(&stored[start..end], offset, &mut shifted[start..end]);
         next[s] = fit;
         done += 1;
     }
