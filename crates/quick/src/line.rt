@@ -36,11 +36,10 @@ fn pass_blocks(stored: &[u8], first: u8, step: u8) -> usize
 {
     let mut at: usize = 0;
     while at + 64 <= stored.len() {
-        let end = at + 64;
-        if !block_on_line(&stored[at..end], line_at(first, step, at), step) {
+        if !block_on_line(&stored[at..at + 64], line_at(first, step, at), step) {
             return at;
         }
-        at = end;
+        at += 64;
     }
     at
 }

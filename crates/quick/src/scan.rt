@@ -23,7 +23,7 @@ pub fn scan_sector(stored: &[u8], offset: u8, out: &mut [u8]) -> Fit
 
 // Under any other step no two neighbours agree, and under the one 128 away every second byte does: it is the runner-up.
 fn exact_fit(step: u8, n: usize) -> Fit
-    requires { ⌜ n ≤ 512 ⌝ }
+    requires { ⌜ (2 ≤ n) × (n ≤ 512) ⌝ }
     ensures { λ r. ⌜ r ≡ exactFit step n ⌝ }
 {
     let half = n - n / 2;

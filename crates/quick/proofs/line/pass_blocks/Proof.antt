@@ -43,5 +43,6 @@ pass-blocks-spec =
     (λ c κs. search needs)
     (λ c. c .before .before .before .before .before .loop .inv)
     (λ c. search needs)
+    (λ c. search needs)
     loop-again
     (λ c. c .before .loop .inv))

@@ -1,0 +1,28 @@
+-- `known_sectors::lay` is safe and ends: the sector keeps its length. Assumes nothing.
+use borrow.Author.Needs.{needs}
+use Prim.Native.Nat.{_-_}
+use lib.ListN.{length}
+use mathlib.Core.Path.{_≡_}
+use Rattle.known_sectors.proofs.lay.Statement.{statement}
+use Rattle.known_sectors.proofs.lay.Tie as tie
+
+abbrev Inv-loop : tie.InvT-loop
+Inv-loop stored₀ step next₀ i₀ stored next i = length stored ≡ length stored₀
+
+abbrev μ-loop : tie.MeasureT-loop
+μ-loop stored₀ step next₀ i₀ stored next i = length stored₀ - i
+
+pub lay-spec : {M : Type 1} → statement M
+lay-spec =
+    tie.close
+    (tie.spec
+    Inv-loop
+    μ-loop
+    (λ c. search needs)
+    (λ c. search needs)
+    (λ c κs. search needs)
+    (λ c. search needs)
+    (λ c. search needs)
+    (λ c. search needs)
+    (λ c. search needs)
+    (λ c. search needs))
