@@ -8,6 +8,7 @@ use lib.ListN.{length}
 use Rattle.lists.specs.Bytes.{byteAt}
 use Rattle.lists.specs.Counts.{allSame}
 use Rattle.lists.proofs.Each.{each-at}
+use Rattle.lists.proofs.Same.{same-each}
 use Rattle.answers.specs.Answers.{isAccepted}
 use Rattle.answers.specs.Settings.{keystream, limitFits}
 use Rattle.answers.specs.Warns.{noWarnings}
@@ -37,7 +38,7 @@ use Rattle.verdict.specs.Sectors.{entry, sectorWarnings}
 use Rattle.demands.specs.Demand2.{readPage}
 use Rattle.demands.specs.Accepted.{GoodPage, Confident, ReadAs, OneValue, Keyed, Accepts}
 use Rattle.demands.proofs.StoredBytes.{summary-bytes}
-use Rattle.demands.proofs.KeyedSectors.{all-same, sector-keyed}
+use Rattle.demands.proofs.KeyedSectors.{sector-keyed}
 use Rattle.demands.proofs.SoundPages.{page-sure, page-lenient}
 
 module _ (number : ℕ) (stored : List ℕ) (bv : ℕ) (whole : length stored ≡ 4096) where
@@ -68,7 +69,7 @@ module _ (number : ℕ) (stored : List ℕ) (bv : ℕ) (whole : length stored �
     exact-at s h =
         let long : length (part s (bytesOf number stored)) ≡ sectorEnd s - s * 512 =
         part-length (bytesOf number stored) s (omega (arith, summary-length number stored whole)) in
-        all-same bv (part s (bytesOf number stored)) (omega arith)
+        same-each bv (part s (bytesOf number stored))
         (λ i k. part-at (bytesOf number stored) s i (omega arith) ∙ one .at (s * 512 + i) (omega arith))
 
     confident : Confident (fitsOf number stored)

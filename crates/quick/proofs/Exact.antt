@@ -1,6 +1,6 @@
 -- All shifted bytes of a sector are equal under the step of its first two bytes, and under no other, exactly where none is off their line. Assumes nothing.
 use Prim.Native.Nat.{ℕ, _+_, _*_, _%_, _≤_, _<_}
-use mathlib.Core.Path.{_≡_, sym, ap, _∙_}
+use mathlib.Core.Path.{_≡_, sym, ap, _∙_, subst}
 use mathlib.Core.Bool.{true}
 use mathlib.Core.List.{List}
 use native.Mathlib.Nat.{zero-mul, one-mul, mul-zero}
@@ -58,6 +58,16 @@ pub break-le : (l : List ℕ) → breakAt l ≤ length l
 unfolding breakAt
 break-le l = off-le (byteAt l 0) (firstStep l) l
 
+-- a line of any step is that through its first two bytes
+line-step : (k : ℕ) (l : List ℕ) → k < 256 → 2 ≤ length l → OnLine (byteAt l 0) k l (length l) → k ≡ firstStep l
+line-step k l hk two on =
+    step-between (byteAt l 0) (byteAt l 1) k hk (on .at 1 (omega arith) ∙ ap (λ (p : ℕ). (byteAt l 0 + p) % 256) (one-mul k))
+
+pub line-unbroken : (k : ℕ) (l : List ℕ) → k < 256 → 2 ≤ length l → OnLine (byteAt l 0) k l (length l) → breakAt l ≡ length l
+unfolding breakAt
+line-unbroken k l hk two on =
+    off-none (byteAt l 0) (firstStep l) l (subst (λ (j : ℕ). OnLine (byteAt l 0) j l (length l)) (line-step k l hk two on) on)
+
 module _ (o : ℕ) (l : List ℕ) where
   pub unbroken : breakAt l ≡ length l → OnLine (byteAt l 0) (firstStep l) l (length l)
   unfolding breakAt
@@ -90,6 +100,4 @@ module _ (o : ℕ) (l : List ℕ) where
 
     -- and that is the only step under which they are
     pub one-step : (k : ℕ) → k < 256 → 2 ≤ length l → allSame (shiftedList o k l) ≡ true → k ≡ firstStep l
-    one-step k hk two same =
-        step-between (byteAt l 0) (byteAt l 1) k hk
-        (same-line o k l bytes same .at 1 (omega arith) ∙ ap (λ (p : ℕ). (byteAt l 0 + p) % 256) (one-mul k))
+    one-step k hk two same = line-step k l hk two (same-line o k l bytes same)

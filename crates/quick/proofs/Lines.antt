@@ -53,7 +53,13 @@ module _ (x k : ℕ) (l : List ℕ) where
         at = λ i h. eqb-true (byteAt l i) (lineAt x k i) (not-back (least-before (λ i. not (eqb (byteAt l i) (lineAt x k i))) (length l) i h));
       }
 
-  -- all before it are on the line, and it is off, or there is none
+  pub off-not-on : offAt x k l < length l → byteAt l (offAt x k l) ≡ lineAt x k (offAt x k l) → ⊥
+  unfolding offAt
+  off-not-on h e =
+      let i : ℕ = least (λ i. not (eqb (byteAt l i) (lineAt x k i))) (length l) in
+      never-both (is-on i e) (least-here (λ i. not (eqb (byteAt l i) (lineAt x k i))) (length l) h)
+
+  -- it is the one that is off where all before it are on the line; where all are, there is none
   pub off-here : (i : ℕ) → OnLine x k l i → i < length l → (byteAt l i ≡ lineAt x k i → ⊥) → offAt x k l ≡ i
   unfolding offAt
   off-here i on h ne = least-is (λ i. not (eqb (byteAt l i) (lineAt x k i))) (length l) i h (is-off i ne) (λ j q. is-on j (on .at j q))
