@@ -5,7 +5,7 @@ use oracle::timed;
 use crate::checks::{Difference, compare};
 use crate::kinds::Case;
 use crate::limits::{GREATEST, USUAL};
-use crate::plan::{DATA, Plan, put};
+use crate::plan::{DATA, Plan, data_of, put};
 use crate::random::Random;
 use crate::tally::Tally;
 
@@ -82,12 +82,21 @@ impl Pages {
 
 /// Progressions, with noise of so many bytes in 256.
 pub fn progressions() -> [Pages; 3] {
-    [("exact", 0), ("dense", 256), ("mixed", 96)].map(|(name, noise)| {
-        Pages::new(name, |r, plan| {
-            plan.data.fill_with(|| if r.below(256) < noise { r.byte() } else { 0 });
-            plan.rows(r.below(60) as u8);
-            plan.trailer[2] = b'E';
-        })
+    [("exact", 0), ("dense", 256), ("mixed", 96)]
+        .map(|(name, noise)| counted(name, |r, plan| plan.data.fill_with(|| if r.below(256) < noise { r.byte() } else { 0 })))
+}
+
+/// Exact but for the last data byte of each sector: all of a sector is looked at before that shows.
+pub fn near() -> Pages {
+    counted("near", |r, plan| (0..8).for_each(|s| plan.data[data_of(s).end - 1] = r.from_to(1, 255) as u8))
+}
+
+/// Extent pages with a row count below 60.
+fn counted(name: &'static str, fill: impl Fn(&mut Random, &mut Plan)) -> Pages {
+    Pages::new(name, |r, plan| {
+        fill(r, plan);
+        plan.rows(r.below(60) as u8);
+        plan.trailer[2] = b'E';
     })
 }
 

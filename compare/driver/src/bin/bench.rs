@@ -1,18 +1,36 @@
 //! bench REPORT [ROUNDS]: both sides' times on the same pages, as ratios, after seeing that they answer alike. REPORT is the program `report`.
 //! Each round times all sides of every question, one after the other, the first of them changing with the round. A figure is the median
 //! over the rounds. It fails where an answer differs or a ratio is over its limit.
+#[cfg(before)]
+#[path = "../before.rs"]
+mod before;
+
 use std::fs::File;
 use std::hint::black_box;
 use std::path::{Path, PathBuf};
 use std::process::{Command, ExitCode};
 
-use compare::bench_pages::{BITS, COUNT, OPTIONS, Pages, falling, progressions, random, tables, zero};
+use compare::bench_pages::{BITS, COUNT, OPTIONS, Pages, falling, near, progressions, random, tables, zero};
 use compare::limits::{GREATEST, USUAL};
 use compare::shrink::{frame_head, hex};
 use compare::timing::{Group, table, time};
 use lumeviqo::{Fits, Leniency, Options, PAGE, SHIFTED};
 use oracle::{Reading, timed};
 
+/// What a kind of page sets the limits of. A replacement is held to the original's scan.
+#[derive(Clone, Copy)]
+struct Limits {
+    scan: f64,
+    replacement: Option<f64>,
+    decoding: Option<f64>,
+    report: Option<f64>,
+}
+
+/// An exact sector is answered at once, any other by 256 histograms, as the original answers all.
+const EXACT: Limits = Limits { scan: 0.002, replacement: Some(0.001), decoding: Some(0.012), report: Some(0.02) };
+const INEXACT: Limits = Limits { scan: 1.0, replacement: None, decoding: None, report: None };
+/// By pages: exact, dense, mixed, near.
+const LIMITS: [Limits; 4] = [EXACT, INEXACT, INEXACT, INEXACT];
 /// The limits of a parse, by its pages: exact, dense, mixed; 0, 50 and 200 rows; 384 falling slots, random, all zero. Those of all rows: 50 and
 /// 200 rows, 384 falling slots. Where a prelude confirms the rows the original has little to do, and that is what the reader must not be slower than.
 const STRICT_PARSE: [f64; 9] = [0.87, 0.62, 0.21, 0.51, 1.0, 1.0, 0.0044, 0.61, 0.77];
@@ -26,24 +44,30 @@ fn main() -> ExitCode {
     let report = PathBuf::from(args.next().expect("REPORT is the program report"));
     let rounds = args.next().map_or(200, |a| a.parse().expect("ROUNDS is a number"));
     let stored = progressions();
+    let near = near();
     let [falling, widest] = falling();
     let plain: Vec<Pages> = tables().into_iter().chain([falling, random(), zero()]).collect();
     let frames = Frames::all(&stored);
     let alike = stored
         .iter()
         .chain(&plain)
-        .chain([&widest])
+        .chain([&near, &widest])
         .try_for_each(Pages::check)
         .and_then(|_| frames.iter().try_for_each(|f| f.check(&report)));
+    #[cfg(before)]
+    let alike = alike.and_then(|_| before::check(&stored, &near));
     if let Err(difference) = alike {
         println!("{difference}");
         return ExitCode::FAILURE;
     }
 
     let mut groups = vec![crc(&stored)];
-    groups.extend(stored.iter().map(scan));
-    groups.extend(stored.iter().map(decode));
-    groups.extend(stored.iter().map(supplied));
+    let scanned: Vec<(&Pages, Limits)> = stored.iter().chain([&near]).zip(LIMITS).collect();
+    groups.extend(scanned.iter().map(|(pages, limits)| scan(pages, limits)));
+    #[cfg(before)]
+    groups.extend(before::groups(&stored, &near));
+    groups.extend(scanned.iter().map(|(pages, limits)| decode(pages, limits)));
+    groups.extend(scanned.iter().map(|(pages, _)| supplied(pages)));
     for (question, leniency, limits) in
         [("parse, strict", Leniency::STRICT, STRICT_PARSE), ("parse, DIRECTORY", Leniency::DIRECTORY, DIRECTORY_PARSE)]
     {
@@ -84,7 +108,7 @@ fn each<'a>(g: &mut Group<'a>, mut ask: impl FnMut(usize) + 'a) -> usize {
 }
 
 /// The original has no replacement: it scans the page anew.
-fn scan(pages: &Pages) -> Group<'_> {
+fn scan<'a>(pages: &'a Pages, limits: &Limits) -> Group<'a> {
     let p = &pages.stored;
     let mut g = Group::default();
     let mut shifted = [0; SHIFTED];
@@ -96,8 +120,8 @@ fn scan(pages: &Pages) -> Group<'_> {
         let answer = lumeviqo::replace(k as u64, &mut stored[k], shifted, fits, k, pages.replacement(k));
         *fits = answer.expect("the sector and the lengths are right");
     });
-    g.ratio("scan of a page", pages.name, reader, original, Some(1.0));
-    g.ratio("replacement of a sector, of the original's scan", pages.name, replacement, original, None);
+    g.ratio("scan of a page", pages.name, reader, original, Some(limits.scan));
+    g.ratio("replacement of a sector, of the original's scan", pages.name, replacement, original, limits.replacement);
     g
 }
 
@@ -110,7 +134,7 @@ fn summaries(pages: &Pages) -> Vec<(Fits, [u8; SHIFTED])> {
     pages.stored.iter().enumerate().map(summary).collect()
 }
 
-fn decode(pages: &Pages) -> Group<'_> {
+fn decode<'a>(pages: &'a Pages, limits: &Limits) -> Group<'a> {
     let p = &pages.stored;
     let mut g = Group::default();
     let mut out = [0; PAGE];
@@ -121,7 +145,7 @@ fn decode(pages: &Pages) -> Group<'_> {
         let (fits, shifted) = &summaries[k];
         drop(black_box(lumeviqo::decode_summary(k as u64, &p[k], fits, shifted, &[], OPTIONS, &mut out)));
     });
-    g.ratio("decoding", pages.name, reader, original, None);
+    g.ratio("decoding", pages.name, reader, original, limits.decoding);
     g.ratio("decoding of a page scanned before, of the original's decoding", pages.name, beside, original, Some(0.01));
     g
 }
@@ -186,27 +210,29 @@ fn parse_at_greatest(pages: &Pages) -> Group<'_> {
 struct Frames {
     name: &'static str,
     count: usize,
+    limit: Option<f64>,
     file: PathBuf,
     /// Of each page in its turn, the digits of its tied steps.
     tied: Vec<String>,
 }
 
 impl Frames {
-    /// Twelve times the pages of each kind, and a thousand pages of zeros.
+    /// Twelve times the pages of each kind, and a thousand pages of zeros. Exact pages ten times as often: they take little beside a start.
     fn all(kinds: &[Pages]) -> Vec<Frames> {
         let zeros = [vec![0; PAGE]];
-        let kinds = kinds.iter().map(|k| Frames::new(k.name, &k.stored, 12 * COUNT));
-        kinds.chain([Frames::new("all zero", &zeros, 1000)]).collect()
+        let kinds = kinds.iter().zip([120, 12, 12]).zip(LIMITS);
+        let kinds = kinds.map(|((k, times), limits)| Frames::new(k.name, &k.stored, times * COUNT, limits.report));
+        kinds.chain([Frames::new("all zero", &zeros, 1000, None)]).collect()
     }
 
-    fn new(name: &'static str, pages: &[Vec<u8>], count: usize) -> Self {
+    fn new(name: &'static str, pages: &[Vec<u8>], count: usize, limit: Option<f64>) -> Self {
         let frame = |k: usize| {
             let head = frame_head((k % pages.len()) as u64, BITS, USUAL as u16, 0);
             format!("{}{}\n", hex(&head), hex(&pages[k % pages.len()]))
         };
         let file = std::env::temp_dir().join(format!("lumeviqo-{}-{name}", std::process::id()));
         std::fs::write(&file, (0..count).map(frame).collect::<String>()).expect("a file for the frames");
-        Frames { name, count, file, tied: (0..).zip(pages).map(|(k, page)| tied(k, page)).collect() }
+        Frames { name, count, limit, file, tied: (0..).zip(pages).map(|(k, page)| tied(k, page)).collect() }
     }
 
     /// Whether the lines without their tied steps are the original's, and those are what is counted.
@@ -260,7 +286,7 @@ fn reports<'a>(frames: &'a [Frames], report: &'a Path) -> Group<'a> {
         .map(|f| [report.to_path_buf(), original_report()].map(|program| g.side(f.count, move || drop(run(&program, &f.file)))))
         .collect();
     for (f, [reader, original]) in frames.iter().zip(&sides) {
-        g.ratio("the program `report`", f.name, *reader, *original, None);
+        g.ratio("the program `report`", f.name, *reader, *original, f.limit);
     }
     let ([_, exact], [zero, _]) = (sides[0], sides[3]);
     g.ratio("a frame of zeros, of the original's exact page", "all zero", zero, exact, Some(0.02));
