@@ -1,13 +1,14 @@
--- A sector that was written with one value under some step: under the step that the scan finds its shifted bytes are that value. Assumes nothing.
+-- A sector of two bytes or more that was written with one value under some step: under the step that the scan finds its shifted bytes are that value. Assumes nothing.
 use Prim.Native.Nat.{ℕ, _+_, _*_, _%_, _≤_, _<_}
 use mathlib.Core.Path.{_≡_, sym, ap, _∙_}
 use mathlib.Core.List.{List}
-use native.Mathlib.Nat.{zero-mul, one-mul}
+use native.Mathlib.Nat.{zero-mul}
 use native.Mathlib.Omega.{arith}
-use lib.ListN.{length, replicate, getD-replicate}
+use lib.ListN.{length, getD-replicate}
 use Rattle.lists.specs.Bytes.{less, byteAt}
 use Rattle.sector.specs.Fit.{sectorOf}
-use Rattle.quick.specs.Line.{lineAt, OnLine, firstStep, breakAt}
+use Rattle.sector.proofs.Bytes.{less-of}
+use Rattle.quick.specs.Line.{OnLine}
 use Rattle.quick.proofs.Exact.{line-unbroken}
 use Rattle.quick.proofs.Fits.{unbroken-sector}
 
@@ -17,9 +18,6 @@ first-made b x p e z = omega arith
 
 next-made : (b x p : ℕ) → b ≡ x % 256 → (x + p) % 256 ≡ (b + p) % 256
 next-made b x p e = omega arith
-
-undone : (b x o : ℕ) → x < 256 → b ≡ (x + o) % 256 → less b o ≡ x
-undone b x o h e = omega arith
 
 module _
     (o bv k : ℕ)
@@ -39,4 +37,4 @@ module _
     sector-keyed i h =
         ap (λ (bytes : List ℕ). byteAt bytes i) (unbroken-sector o l (line-unbroken k l hk two on-line) two)
         ∙ getD-replicate (length l) i (less (byteAt l 0) o) 0 h
-        ∙ undone (byteAt l 0) bv o hb first
+        ∙ sym (less-of (byteAt l 0) o bv hb (sym first))

@@ -1,6 +1,6 @@
-// Sectors that are a line, or leave it at one byte, scanned by both engines: `quick` must answer as `sector` does, fit and shifted bytes. Each line has the
-// length, the step of the line, the byte that is off it (the length where none is), then the fit, the first and the last shifted byte, and whether the two
-// are the same. What must be printed was counted by make-stdout.py, from document 01's rules.
+// Sectors whose bytes lie on a line, or leave it at one byte or from one byte on, scanned by both engines: `quick` must answer as `sector` does, fit and
+// shifted bytes. What is printed of a sector: its length, the step of the line, the first byte that is off it and the end of those that are, then the fit, a
+// sum over the shifted bytes in their order, and whether the two engines gave the same. What it must be was counted by make-stdout.py from document 01's rules.
 use libc::STDOUT_FILENO;
 use sector::Fit;
 ghost use mathlib.Core.Path.{_≡_};
@@ -32,9 +32,9 @@ fn sectors(n: usize) {
     lines(n, 255);
 }
 
-// The line whole, and with one byte off it in each place that the sector has.
+// The line whole, with one byte off it at each place that the sector has, and left for another line.
 fn lines(n: usize, step: u8) {
-    scan(n, step, n);
+    scan(n, step, n, n);
     broken(n, step, 2);
     broken(n, step, 3);
     broken(n, step, 63);
@@ -45,26 +45,36 @@ fn lines(n: usize, step: u8) {
     broken(n, step, 495);
     broken(n, step, 510);
     broken(n, step, 511);
+    left(n, step, 3);
+    left(n, step, 64);
+    left(n, step, 128);
 }
 
 fn broken(n: usize, step: u8, at: usize) {
     if at < n {
-        scan(n, step, at);
+        scan(n, step, at, at + 1);
     }
 }
 
-fn scan(n: usize, step: u8, at: usize) {
+fn left(n: usize, step: u8, at: usize) {
+    if at < n {
+        scan(n, step, at, n);
+    }
+}
+
+fn scan(n: usize, step: u8, from: usize, to: usize) {
     if n > 513 {
         return;
     }
     let mut stored = room();
     lay(&mut stored, step);
-    raise(&mut stored, at);
+    raise(&mut stored, from, to);
     let mut quick = room();
     let mut full = room();
     number(n as u64);
     number(step as u64);
-    number(at as u64);
+    number(from as u64);
+    number(to as u64);
     both(&stored[0..n], &mut quick[0..n], &mut full[0..n]);
 }
 
@@ -83,7 +93,7 @@ fn both(stored: &[u8], quick: &mut [u8], full: &mut [u8]) {
     let b = sector::scan_sector(stored, 200, full);
     text(b":");
     show(a);
-    ends(quick);
+    number(sum(quick));
     verdict(same_fit(a, b) && same_bytes(quick, full));
 }
 
@@ -98,8 +108,16 @@ fn lay(stored: &mut [u8], step: u8) {
     }
 }
 
-// One byte one too high.
-fn raise(stored: &mut [u8], at: usize) {
+// Some bytes one too high.
+fn raise(stored: &mut [u8], from: usize, to: usize) {
+    let mut i: usize = from;
+    while i < to {
+        raise_one(stored, i);
+        i += 1;
+    }
+}
+
+fn raise_one(stored: &mut [u8], at: usize) {
     if at < stored.len() {
         stored[at] = std::num::wrapping_add_u8(stored[at], 1);
     }
@@ -113,11 +131,15 @@ fn show(fit: Fit) {
     number(fit.tied as u64);
 }
 
-fn ends(bytes: &[u8]) {
-    if 0 < bytes.len() {
-        number(numbers::long8(bytes[0]));
-        number(numbers::long8(bytes[bytes.len() - 1]));
+// Each byte counts by its place. The first remainder only keeps the numbers from running over.
+fn sum(bytes: &[u8]) -> u64 {
+    let mut sum: u64 = 0;
+    let mut i: usize = 0;
+    while i < bytes.len() {
+        sum = (sum % 65536 * 31 + numbers::long8(bytes[i])) % 65521;
+        i += 1;
     }
+    sum
 }
 
 fn verdict(same: bool) {
@@ -151,11 +173,11 @@ fn same_bytes(a: &[u8], b: &[u8]) -> bool {
     same
 }
 
-// Room for a sector and a byte. The contract gives the length alone.
+// Room for a sector and a byte, with what a blank must leave there. The contract gives the length alone.
 fn room() -> [u8; 513]
     ensures { λ r. ⌜ 513 ≡ length r ⌝ }
 {
-    [0u8; 513]
+    [165u8; 513]
 }
 
 fn number(n: u64) {

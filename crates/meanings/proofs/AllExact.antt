@@ -1,28 +1,20 @@
 -- Eight exact sectors that vote for one value: it is every byte. Assumes nothing.
-use Prim.Native.Nat.{ℕ, zero, suc, _+_, _-_, _*_, _/_, _%_, _<_}
+use Prim.Native.Nat.{ℕ, _+_, _-_, _*_, _/_, _%_, _<_}
 use mathlib.Core.Path.{_≡_, refl, sym, ap, _∙_}
 use mathlib.Core.Bool.{true}
-use mathlib.Core.List.{List, [], _∷_}
-use native.Mathlib.Nat.{add-zero, not-suc-le-zero, le-of-suc-le-suc}
+use mathlib.Core.List.{List}
+use native.Mathlib.Nat.{add-zero}
 use native.Mathlib.Omega.{arith}
 use lib.ListN.{length}
 use Rattle.lists.specs.Bytes.{byteAt, AllBytes}
-use Rattle.lists.specs.Counts.{allSame}
 use Rattle.lists.proofs.Many.{many-all}
-use Rattle.lists.proofs.Same.{are-at}
+use Rattle.lists.proofs.Same.{same-at}
 use Rattle.answers.specs.Settings.{limitFits}
 use Rattle.summary.specs.Page.{sectorEnd, part}
 use Rattle.summary.proofs.Parts.{part-length, part-at}
 use Rattle.votes.specs.Votes.{isVerified}
 use Rattle.meanings.specs.Values.{isExact, exactValue, exactSectors}
 use Rattle.meanings.specs.Sources.{Agreed, Asked}
-
--- every element of a list of equal ones is its first
-same-at : (l : List ℕ) (i : ℕ) → allSame l ≡ true → i < length l → byteAt l i ≡ byteAt l 0
-unfolding allSame
-same-at [] i e h = absurd (not-suc-le-zero h)
-same-at (x ∷ l) zero e h = refl
-same-at (x ∷ l) (suc i) e h = are-at x l i e (le-of-suc-le-suc h)
 
 module _ (shifted : List ℕ) (bv : ℕ) (long : length shifted ≡ 4080) (small : bv < 256)
     (exact : (s : ℕ) → s < 8 → (isExact shifted s ≡ true) × (exactValue shifted s ≡ bv)) where

@@ -15,23 +15,20 @@ use Rattle.sector.specs.Fit.{shiftedList}
 use Rattle.sector.proofs.Shifts.{shift-length}
 use Rattle.quick.specs.Line.{lineAt, OnLine, firstStep, breakAt}
 use Rattle.quick.proofs.Lines.{off-le, off-before, off-none}
-use Rattle.quick.proofs.Shifted.{byte-shifted, line-shifted}
+use Rattle.quick.proofs.Shifted.{byte-shifted, carried, line-shifted}
+
+less-nothing : (x o : ℕ) → less (less x o) 0 ≡ less x o
+less-nothing x o = omega arith
+
+offset-added : (x o : ℕ) → (less x o + o) % 256 ≡ x % 256
+offset-added x o = omega arith
 
 -- what is shifted to the same as the first byte is a byte of the line
-nothing-off : (x o : ℕ) → less (less x o) 0 ≡ less x o
-nothing-off x o = omega arith
-
-carried : (y x o p : ℕ) → (y + o) % 256 ≡ x % 256 → ((y + p) % 256 + o) % 256 ≡ (x + p) % 256
-carried y x o p e = omega arith
-
-offset-on : (x o : ℕ) → (less x o + o) % 256 ≡ x % 256
-offset-on x o = omega arith
-
 redone : (b x o p : ℕ) → b < 256 → less (less b o) p ≡ less (less x o) 0 → b ≡ (x + p) % 256
 redone b x o p h e =
     sym (less-add b o h)
-    ∙ ap (λ (n : ℕ). (n + o) % 256) (sym (less-add (less b o) p (less-byte b o)) ∙ ap (λ (n : ℕ). (n + p) % 256) (e ∙ nothing-off x o))
-    ∙ carried (less x o) x o p (offset-on x o)
+    ∙ ap (λ (n : ℕ). (n + o) % 256) (sym (less-add (less b o) p (less-byte b o)) ∙ ap (λ (n : ℕ). (n + p) % 256) (e ∙ less-nothing x o))
+    ∙ carried (less x o) x o p (offset-added x o)
 
 same-line : (o k : ℕ) (l : List ℕ) → AllBytes l → allSame (shiftedList o k l) ≡ true → OnLine (byteAt l 0) k l (length l)
 same-line o k l bytes same =
@@ -68,16 +65,16 @@ unfolding breakAt
 line-unbroken k l hk two on =
     off-none (byteAt l 0) (firstStep l) l (subst (λ (j : ℕ). OnLine (byteAt l 0) j l (length l)) (line-step k l hk two on) on)
 
-module _ (o : ℕ) (l : List ℕ) where
-  pub unbroken : breakAt l ≡ length l → OnLine (byteAt l 0) (firstStep l) l (length l)
-  unfolding breakAt
-  unbroken e = record { within = omega arith; at = λ i h. off-before (byteAt l 0) (firstStep l) l .at i (omega arith) }
+pub unbroken : (l : List ℕ) → breakAt l ≡ length l → OnLine (byteAt l 0) (firstStep l) l (length l)
+unfolding breakAt
+unbroken l e = record { within = omega arith; at = λ i h. off-before (byteAt l 0) (firstStep l) l .at i (omega arith) }
 
+module _ (o : ℕ) (l : List ℕ) where
   -- THE SHIFTED BYTES where none breaks, under the step of the first two: the first byte less the offset, each time
   unbroken-at : breakAt l ≡ length l → (i : ℕ) → i < length l → byteAt (shiftedList o (firstStep l) l) i ≡ less (byteAt l 0) o
   unbroken-at e i h =
       let small : firstStep l < 256 = less-byte (byteAt l 1) (byteAt l 0) in
-      line-shifted o (byteAt l 0) (firstStep l) (firstStep l) l small small (unbroken e) i h
+      line-shifted o (byteAt l 0) (firstStep l) (firstStep l) l small small (unbroken l e) i h
       ∙ ap (λ (d : ℕ). lineAt (less (byteAt l 0) o) d i) (no-step (firstStep l) small)
       ∙ level o (byteAt l 0) i
 

@@ -1,7 +1,6 @@
 -- The fit of a sector that no byte breaks: under another step no two neighbours agree, and under the one 128 away each even byte does. Assumes nothing.
 use Prim.Native.Nat.{ℕ, suc, _+_, _*_, _/_, _%_, _≤_, _<_}
 use mathlib.Core.Path.{_≡_, sym, ap, _∙_}
-use mathlib.Core.Bool.{Bool}
 use mathlib.Core.List.{List}
 use native.Mathlib.Omega.{arith}
 use borrow.Author.Tests.{eqb-true}
@@ -28,6 +27,9 @@ opposite s = (s + 128) % 256
 opposite-less : (s : ℕ) → s < 256 → less s (opposite s) ≡ 128
 opposite-less s h = omega arith
 
+even-same : (y i : ℕ) → y < 256 → lineAt y 128 (2 * i) ≡ y
+even-same y i h = omega arith
+
 stays : (r d : ℕ) → d < 256 → (r + d) % 256 ≡ r → d ≡ 0
 stays r d h e = omega arith
 
@@ -39,7 +41,7 @@ module _ (o : ℕ) (l : List ℕ) (e : breakAt l ≡ length l) (two : 2 ≤ leng
   small = less-byte (byteAt l 1) (byteAt l 0)
 
   under : (k i : ℕ) → k < 256 → i < length l → byteAt (shiftedList o k l) i ≡ lineAt (less (byteAt l 0) o) (less (firstStep l) k) i
-  under k i hk h = line-shifted o (byteAt l 0) (firstStep l) k l small hk (unbroken o l e) i h
+  under k i hk h = line-shifted o (byteAt l 0) (firstStep l) k l small hk (unbroken l e) i h
 
   -- under its own step all bytes agree
   own : modalAt o l (firstStep l) ≡ length l
@@ -72,22 +74,16 @@ module _ (o : ℕ) (l : List ℕ) (e : breakAt l ≡ length l) (two : 2 ≤ leng
       (λ v hv. omega (arith, shift-length o k 0 l, count-apart v (shiftedList o k l) (λ i h a b. differ k v i hk ne h a b)))
 
   -- under the one 128 away each even one does
-  far : ℕ
+  abbrev far : ℕ
   far = opposite (firstStep l)
 
   far-small : far < 256
-  unfolding far
   far-small = omega arith
 
   far-other : far ≡ firstStep l → ⊥
-  unfolding far
   far-other q = omega (arith, q, small)
 
-  even-same : (y i : ℕ) → y < 256 → lineAt y 128 (2 * i) ≡ y
-  even-same y i h = omega arith
-
   evens : (i : ℕ) → 2 * i < length (shiftedList o far l) → byteAt (shiftedList o far l) (2 * i) ≡ less (byteAt l 0) o
-  unfolding far
   evens i h =
       let size : length (shiftedList o far l) ≡ length l = shift-length o far 0 l in
       let y : ℕ = less (byteAt l 0) o in

@@ -8,11 +8,12 @@ use native.Mathlib.Decide.{decLt}
 use native.Mathlib.Omega.{arith}
 use lib.ListN.{length}
 use Rattle.lists.specs.Bytes.{less, byteAt, AllBytes}
-use Rattle.sector.specs.Fit.{fitOf}
-use Rattle.sector.specs.declared.fits.Fit.{Fit}
+use Rattle.lists.specs.Counts.{allSame}
+use Rattle.sector.specs.Fit.{shiftedList, fitOf, sectorOf}
+use Rattle.sector.proofs.Meaning.{fit-step, fit-exact}
 use Rattle.quick.specs.Line.{lineAt, firstStep, breakAt, exactFit}
 use Rattle.quick.proofs.Lines.{line-start, off-not-on}
-use Rattle.quick.proofs.Exact.{break-le}
+use Rattle.quick.proofs.Exact.{break-le, same-unbroken, one-step}
 use Rattle.quick.proofs.Fits.{unbroken-fit}
 
 second-on : (a b p : ℕ) → b < 256 → p ≡ less b a → b ≡ (a + p) % 256
@@ -50,3 +51,11 @@ module _ (o : ℕ) (l : List ℕ) where
   pub exact-496 :
       length l ≡ 496 → breakAt l ≡ 496 → fitOf o l ≡ record { step = firstStep l; peak = 496; «runner_up» = 248; exact = true; tied = 1 }
   exact-496 n e = unbroken-fit o l (e ∙ sym n) (omega arith) ∙ ap (exactFit (firstStep l)) n
+
+-- and no exact sector breaks: each is answered at once
+pub exact-unbroken : (o : ℕ) (l : List ℕ) → AllBytes l → 2 ≤ length l → fitOf o l .exact ≡ true → breakAt l ≡ length l
+unfolding sectorOf
+exact-unbroken o l bytes two e =
+    let step : ℕ = fitOf o l .step in
+    let same : allSame (shiftedList o step l) ≡ true = sym (fit-exact o l) ∙ e in
+    same-unbroken o l bytes (ap (λ (k : ℕ). allSame (shiftedList o k l)) (sym (one-step o l bytes step (fit-step o l) two same)) ∙ same)

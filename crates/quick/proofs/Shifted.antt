@@ -2,7 +2,7 @@
 use Prim.Native.Nat.{ℕ, _+_, _*_, _%_, _<_}
 use mathlib.Core.Path.{_≡_, sym, ap, _∙_}
 use mathlib.Core.List.{List}
-use native.Mathlib.Nat.{mul-add, zero-add}
+use native.Mathlib.Nat.{mul-add, zero-add, add-comm}
 use native.Mathlib.Decide.{decLt}
 use native.Mathlib.Omega.{arith}
 use lib.ListN.{length}
@@ -32,11 +32,14 @@ apart-steps i s k hs hk = go (decLt s k)
 without-offset : (x o p : ℕ) → less ((x + p) % 256) o ≡ (less x o + p) % 256
 without-offset x o p = omega arith
 
-back-on : (y p q r : ℕ) → (r + q) % 256 ≡ p % 256 → ((y + r) % 256 + q) % 256 ≡ (y + p) % 256
-back-on y p q r e = omega arith
+pub carried : (y x o p : ℕ) → (y + o) % 256 ≡ x % 256 → ((y + p) % 256 + o) % 256 ≡ (x + p) % 256
+carried y x o p e = omega arith
 
 without-step : (y p q r : ℕ) → (r + q) % 256 ≡ p % 256 → less ((y + p) % 256) q ≡ (y + r) % 256
-without-step y p q r e = sym (less-of ((y + p) % 256) q ((y + r) % 256) (omega arith) (back-on y p q r e))
+without-step y p q r e =
+    sym
+    (less-of ((y + p) % 256) q ((y + r) % 256) (omega arith)
+    (ap (λ (n : ℕ). (n % 256 + q) % 256) (add-comm y r) ∙ carried r p q y e ∙ ap (λ (n : ℕ). n % 256) (add-comm p y)))
 
 pub line-shifted :
     (o x s k : ℕ) (l : List ℕ)

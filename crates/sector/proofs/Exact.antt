@@ -16,7 +16,7 @@ use Rattle.sector.specs.Byte.{shiftedOf}
 use Rattle.sector.specs.Fit.{shiftFrom, shiftedList, modalOf, modalAt}
 use Rattle.sector.proofs.Bytes.{shifted-byte}
 
-pub modal-le : (l : List ℕ) → modalOf l ≤ length l
+modal-le : (l : List ℕ) → modalOf l ≤ length l
 unfolding modalOf
 modal-le l = greatest-below (λ v. count v l) 256 (length l) (λ v h. count-le v l)
 

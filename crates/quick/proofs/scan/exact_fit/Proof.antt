@@ -4,7 +4,6 @@ use mathlib.Core.Path.{_≡_, ap}
 use mathlib.Core.Bool.{true}
 use native.Mathlib.Omega.{arith}
 use borrow.Author.Needs.{needs}
-use Rattle.sector.specs.declared.fits.Fit.{Fit}
 use Rattle.quick.proofs.scan.exact_fit.Statement.{statement}
 use Rattle.quick.proofs.scan.exact_fit.Tie as tie
 

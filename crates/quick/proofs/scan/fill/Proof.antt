@@ -1,11 +1,11 @@
 -- `fill` meets its contract: what was written is x each time.
 use Prim.Native.Nat.{_-_}
-use mathlib.Core.Path.{_≡_, refl, _∙_}
+use mathlib.Core.Path.{refl, _∙_}
 use native.Mathlib.Omega.{arith}
 use borrow.Author.Needs.{needs}
 use denote.Ref.{now}
 use lib.ListN.{length}
-use Rattle.lists.proofs.Each.{each-same}
+use Rattle.lists.proofs.Each.{each-replicate}
 use Rattle.lists.proofs.Filled.{Filled, filled-none, filled-more, filled-all}
 use Rattle.quick.proofs.scan.fill.Statement.{statement}
 use Rattle.quick.proofs.scan.fill.Tie as tie
@@ -28,7 +28,7 @@ returns : tie.Need-returns Inv-loop μ-loop
 returns c =
     let a = c .before .before .args in
     let l = c .before .loop in
-    filled-all _ _ _ (l .i) (l .inv) (omega (arith, l .inv .room)) ∙ each-same (a .x) (length (now (a .out)))
+    filled-all _ _ _ (l .i) (l .inv) (omega (arith, l .inv .room)) ∙ each-replicate (a .x) (length (now (a .out)))
 
 pub fill-spec : {M : Type 1} → statement M
 fill-spec =
