@@ -116,7 +116,7 @@ impl Explanation<'_> {
     }
 
     fn accepted(&mut self, accepted: &Accepted) {
-        let decoding = &accepted.reading.decoding;
+        let decoding = &accepted.decoding;
         if let Some(bv) = decoding.bv {
             self.say("bv", format!("{bv:02x}, from the {}: {}", decoding.source, decoding.confidence));
         }

@@ -342,8 +342,8 @@ fn digest(stored: &[u8], page: &PageReading) -> u64 {
     (stored, page.outcome.name(), page.unread).hash(&mut hasher);
     match &page.answer {
         Answer::Accepted(accepted) => {
-            let said = format!("{:?} {:?}", accepted.reading.decoding, accepted.row_count);
-            (said, accepted.reading.plain.as_slice()).hash(&mut hasher);
+            let said = format!("{:?} {:?}", accepted.decoding, accepted.row_count);
+            (said, accepted.plain.as_slice()).hash(&mut hasher);
         }
         Answer::Refused(refusal) => format!("{refusal:?}").hash(&mut hasher),
         _ => {}

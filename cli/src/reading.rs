@@ -1,7 +1,9 @@
 //! Pages as they are read: block by block, since the other pages of a block say which bv to expect (its anchors, document 02, #101).
 use std::ops::Range;
 
-use lumeviqo::{Confidence, Leniency, Options, PAGE, Reading, Refusal, Repair, Source as BvSource, Trailer, header};
+use lumeviqo::{
+    Confidence, Decoding, Leniency, Options, PAGE, Reading, Refusal, Repair, SECTOR, SHIFTED, Source as BvSource, Trailer, header,
+};
 
 use crate::failure::Result;
 use crate::outcome::Outcome;
@@ -28,13 +30,16 @@ pub enum Answer {
 }
 
 pub struct Accepted {
-    pub reading: Reading,
+    pub decoding: Decoding,
+    pub plain: Box<[u8; PAGE]>,
     pub row_count: std::result::Result<usize, Refusal>,
 }
 
 /// A page before the anchors of its block are known.
 enum Look {
     Done(Outcome, Answer),
+    /// Whatever they are, it gives this.
+    Settled(Box<Accepted>, Option<Trailer>),
     Scanned(Box<Scanned>),
 }
 
@@ -67,7 +72,12 @@ impl<'a> Part<'a> {
         })
     }
 
+    /// The evidence of a page may lack its anchors, where nothing else depends on them.
     pub fn read(&self, source: &Source, options: Options) -> Vec<PageReading> {
+        self.read_with(source, options, false)
+    }
+
+    fn read_with(&self, source: &Source, options: Options, explained: bool) -> Vec<PageReading> {
         let mut readings = Vec::with_capacity((self.wanted.end - self.wanted.start) as usize);
         for block in self.blocks() {
             let pages = (block.first..).zip(block.bytes.chunks(PAGE)).zip(block.zeros);
@@ -77,6 +87,7 @@ impl<'a> Part<'a> {
                 unread: source.unread_sectors(number),
                 zeros: *zeros,
                 repair: None,
+                explained,
             });
             readings.extend(read_block(stored, &block.wanted, options));
         }
@@ -90,7 +101,7 @@ pub fn read_page(source: &Source, number: u64, options: Options) -> Result<(Page
     source.read_blocks(&wanted, &mut bytes)?;
     let zeros: Vec<bool> = bytes.chunks(PAGE).map(looks_zero).collect();
     let part = Part { first: blocks_of(&wanted).start, wanted, bytes: &bytes, zeros: &zeros };
-    let page = part.read(source, options).remove(0);
+    let page = part.read_with(source, options, true).remove(0);
     let at = (number % BLOCK) as usize * PAGE;
     let stored = bytes[at..bytes.len().min(at + PAGE)].to_vec();
     Ok((page, stored))
@@ -104,11 +115,13 @@ pub struct Stored<'a> {
     /// It looks like zeros.
     zeros: bool,
     repair: Option<Repair>,
+    /// All of its evidence is wanted.
+    explained: bool,
 }
 
 impl<'a> Stored<'a> {
     pub fn new(number: u64, bytes: &'a [u8], unread: u8) -> Self {
-        Stored { number, bytes, unread, zeros: looks_zero(bytes), repair: None }
+        Stored { number, bytes, unread, zeros: looks_zero(bytes), repair: None, explained: true }
     }
 
     /// The same with the summary that was kept while its sectors were replaced.
@@ -136,7 +149,7 @@ fn others(anchors: &[(u64, u8)], number: u64) -> Vec<u8> {
 
 /// `unallocated` is the library's word on a page of zeros, which is asked for once in a block: pages with the same bytes have the same answer.
 fn look(stored: Stored, options: Options, unallocated: &mut Option<bool>) -> Look {
-    let Stored { number, bytes: page, unread, zeros, .. } = stored;
+    let Stored { number, bytes: page, unread, zeros, explained, .. } = stored;
     if page.len() < PAGE {
         return Look::Done(Outcome::CutShort, Answer::CutShort(page.len()));
     }
@@ -146,6 +159,11 @@ fn look(stored: Stored, options: Options, unallocated: &mut Option<bool>) -> Loo
         }
         if *unallocated.get_or_insert_with(|| is_unallocated(number, page, options)) {
             return Look::Done(Outcome::Unallocated, Answer::Unallocated);
+        }
+    }
+    if number != 0 && unread == 0 && !explained && looks_exact(page) {
+        if let Some(look) = settled(number, page, options) {
+            return look;
         }
     }
     let sound = lumeviqo::integrity(number, page);
@@ -175,6 +193,19 @@ fn is_unallocated(number: u64, page: &[u8], options: Options) -> bool {
     lumeviqo::decode(number, page, &[], options, &mut [0; PAGE]).is_ok_and(|decoding| decoding.source == BvSource::Unallocated)
 }
 
+/// Exact sectors that agree decide, whatever the anchors and whatever is allowed: so says the theorem `choice-means` of the crate `meanings`.
+fn settled(number: u64, page: &[u8], options: Options) -> Option<Look> {
+    let mut plain = Box::new([0; PAGE]);
+    let decoding = lumeviqo::decode(number, page, &[], alone(options), &mut plain[..]).ok()?;
+    let decided = decoding.source == BvSource::ExactSectors && decoding.warnings.is_empty();
+    decided.then(|| Look::Settled(Box::new(Accepted::new(number, decoding, plain, options)), lumeviqo::trailer(page).ok()))
+}
+
+/// What a page is asked by itself. Sectors in doubt do not matter then, so KEYSTREAM lets them pass.
+fn alone(options: Options) -> Options {
+    Options { leniency: Leniency::KEYSTREAM, ..options }
+}
+
 fn scanned(stored: Stored, sound: bool, lost: bool, options: Options) -> Look {
     let Stored { number, bytes, repair, .. } = stored;
     match repair.map_or_else(|| Repair::new(number, bytes), Ok) {
@@ -187,9 +218,9 @@ fn scanned(stored: Stored, sound: bool, lost: bool, options: Options) -> Look {
     }
 }
 
-/// The page's own bv, if row count or exact sectors confirm it without help. Sectors in doubt do not matter here, so KEYSTREAM lets them pass.
+/// The page's own bv, if row count or exact sectors confirm it without help.
 fn anchor(repair: &Repair, options: Options) -> Option<u8> {
-    let reading = repair.decode(&[], Options { leniency: Leniency::KEYSTREAM, ..options }).ok()?;
+    let reading = repair.decode(&[], alone(options)).ok()?;
     let confirmed = matches!(reading.decoding.source, BvSource::TrailerRowCount | BvSource::ExactSectors);
     reading.decoding.bv.filter(|_| confirmed)
 }
@@ -198,6 +229,7 @@ impl Look {
     fn anchor(&self) -> Option<u8> {
         match self {
             Look::Scanned(scanned) => scanned.anchor,
+            Look::Settled(accepted, _) => accepted.decoding.bv,
             Look::Done(..) => None,
         }
     }
@@ -205,6 +237,10 @@ impl Look {
     fn read(self, number: u64, unread: u8, anchors: &[u8], options: Options) -> PageReading {
         match self {
             Look::Done(outcome, answer) => PageReading { number, outcome, unread, trailer: None, answer },
+            Look::Settled(accepted, trailer) => {
+                let outcome = trusted(accepted.decoding.confidence);
+                PageReading { number, outcome, unread, trailer, answer: Answer::Accepted(accepted) }
+            }
             Look::Scanned(scanned) => {
                 let (outcome, answer) = decoded(&scanned.repair, anchors, options);
                 let outcome = if scanned.lost { Outcome::Unread } else { outcome };
@@ -229,15 +265,22 @@ impl Answer {
 /// What a page gives under these anchors, and how many rows it has.
 pub fn decoded(repair: &Repair, anchors: &[u8], options: Options) -> (Outcome, Answer) {
     match repair.decode(anchors, options) {
-        Ok(reading) => {
-            let row_count = lumeviqo::row_count(repair.number(), reading.plain.as_slice(), options);
-            (accepted(reading.decoding.confidence), Answer::Accepted(Box::new(Accepted { reading, row_count })))
+        Ok(Reading { decoding, plain, .. }) => {
+            let accepted = Accepted::new(repair.number(), decoding, plain, options);
+            (trusted(accepted.decoding.confidence), Answer::Accepted(Box::new(accepted)))
         }
         Err(refusal) => (refused(&refusal), Answer::Refused(refusal)),
     }
 }
 
-fn accepted(confidence: Confidence) -> Outcome {
+impl Accepted {
+    fn new(number: u64, decoding: Decoding, plain: Box<[u8; PAGE]>, options: Options) -> Self {
+        let row_count = lumeviqo::row_count(number, &plain[..], options);
+        Accepted { decoding, plain, row_count }
+    }
+}
+
+fn trusted(confidence: Confidence) -> Outcome {
     match confidence {
         Confidence::Unallocated => Outcome::Unallocated,
         Confidence::Unverified => Outcome::Unverified,
@@ -257,6 +300,15 @@ fn refused(refusal: &Refusal) -> Outcome {
 /// Whether a page is worth the question: pages that were written begin or end otherwise, with few exceptions.
 pub fn looks_zero(page: &[u8]) -> bool {
     page.len() == PAGE && page[..64] == [0; 64] && page[PAGE - 64..] == [0; 64]
+}
+
+/// Whether its scan is likely to cost little: the last byte of each sector lies where the first two point.
+fn looks_exact(page: &[u8]) -> bool {
+    (0..PAGE).step_by(SECTOR).all(|start| {
+        let last = (start + SECTOR).min(SHIFTED) - 1;
+        let step = page[start + 1].wrapping_sub(page[start]);
+        page[last] == page[start].wrapping_add(step.wrapping_mul((last - start) as u8))
+    })
 }
 
 /// By comparison, which the system's library does with the widest numbers that the processor has.

@@ -86,7 +86,7 @@ fn lines(readings: &[PageReading], options: Options, form: Form) -> Vec<u8> {
 }
 
 fn put_rows(lines: &mut Vec<u8>, page: &PageReading, accepted: &Accepted, options: Options, form: Form) {
-    let Ok(rows) = accepted.reading.rows(options) else { return };
+    let Ok(rows) = lumeviqo::rows(page.number, accepted.plain.as_slice(), options) else { return };
     for (number, row) in rows.iter().enumerate() {
         let put = match form {
             Form::Text => put_text(lines, page, accepted, number, row),
@@ -98,7 +98,7 @@ fn put_rows(lines: &mut Vec<u8>, page: &PageReading, accepted: &Accepted, option
 }
 
 fn put_text(lines: &mut Vec<u8>, page: &PageReading, accepted: &Accepted, number: usize, row: &Row) -> std::io::Result<()> {
-    let confidence = accepted.reading.decoding.confidence.to_string();
+    let confidence = accepted.decoding.confidence.to_string();
     let unread = if touches(row, page.unread) { "yes" } else { "no" };
     let (at, length) = (row.offset, row.bytes.len());
     write!(lines, "{:>8} {number:>4} {at:>6} {length:>6}  {confidence:<12} {unread:<6} ", page.number)?;
@@ -107,7 +107,7 @@ fn put_text(lines: &mut Vec<u8>, page: &PageReading, accepted: &Accepted, number
 
 fn put_csv(lines: &mut Vec<u8>, page: &PageReading, accepted: &Accepted, number: usize, row: &Row) -> std::io::Result<()> {
     let unread = touches(row, page.unread);
-    let (at, length, confidence) = (row.offset, row.bytes.len(), accepted.reading.decoding.confidence);
+    let (at, length, confidence) = (row.offset, row.bytes.len(), accepted.decoding.confidence);
     write!(lines, "{},{number},{at},{length},{confidence},{unread},", page.number)?;
     put_hexadecimal(lines, row.bytes);
     writeln!(lines)
@@ -121,7 +121,7 @@ fn put_json(lines: &mut Vec<u8>, page: &PageReading, accepted: &Accepted, number
         "row": number,
         "offset": row.offset,
         "length": row.bytes.len(),
-        "confidence": accepted.reading.decoding.confidence.to_string(),
+        "confidence": accepted.decoding.confidence.to_string(),
         "unread": touches(row, page.unread),
         "bytes": String::from_utf8_lossy(&bytes),
     });

@@ -127,7 +127,7 @@ fn record(page: &PageReading) -> [String; COLUMNS.len()] {
     }
     match &page.answer {
         Answer::Accepted(accepted) => {
-            let decoding = &accepted.reading.decoding;
+            let decoding = &accepted.decoding;
             record[3] = decoding.source.to_string();
             record[4] = decoding.confidence.to_string();
             record[5] = decoding.bv.map_or(String::new(), |bv| format!("{bv:02x}"));

@@ -114,7 +114,7 @@ impl Tally {
     }
 
     fn note_accepted(&mut self, accepted: &Accepted) {
-        let decoding = &accepted.reading.decoding;
+        let decoding = &accepted.decoding;
         add(&mut self.sources, decoding.source.to_string(), 1);
         add(&mut self.confidences, decoding.confidence.to_string(), 1);
         self.warnings += u64::from(!decoding.warnings.is_empty());
@@ -172,7 +172,7 @@ fn keyed(counts: &BTreeMap<usize, u64>) -> Counts {
 fn own_bv(page: &PageReading) -> Option<u8> {
     match &page.answer {
         Answer::Accepted(accepted) => {
-            let decoding = &accepted.reading.decoding;
+            let decoding = &accepted.decoding;
             decoding.bv.filter(|_| matches!(decoding.source, BvSource::TrailerRowCount | BvSource::ExactSectors))
         }
         _ => None,
