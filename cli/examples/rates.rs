@@ -8,7 +8,7 @@ use std::time::Instant;
 
 use lumeviqo::{Leniency, Options, PAGE, Refusal, Repair};
 
-/// As many pages as `survey` reads at once.
+/// Two blocks of pages.
 const PART: usize = 32 * PAGE;
 
 fn main() {
@@ -55,11 +55,8 @@ fn decode(number: u64, page: &[u8]) {
     let _ = black_box(lumeviqo::decode(number, page, &[], Options::default(), &mut plain));
 }
 
-/// With no shortcut: its integrity, its own bv for the other pages of the block, its reading with the block's anchors, its rows. Zeros are decoded alone.
+/// With no shortcut: its integrity, its own bv for the other pages of the block, its reading with the block's anchors, its rows.
 fn read_in_block(number: u64, page: &[u8]) {
-    if page == [0; PAGE] {
-        return decode(number, page);
-    }
     let _ = black_box(row_count(number, page));
 }
 

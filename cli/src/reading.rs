@@ -161,7 +161,7 @@ fn look(stored: Stored, options: Options, unallocated: &mut Option<bool>) -> Loo
             return Look::Done(Outcome::Unallocated, Answer::Unallocated);
         }
     }
-    if number != 0 && unread == 0 && !explained && looks_exact(page) {
+    if number != 0 && !explained && looks_exact(page) {
         if let Some(look) = settled(number, page, options) {
             return look;
         }
@@ -302,17 +302,164 @@ pub fn looks_zero(page: &[u8]) -> bool {
     page.len() == PAGE && page[..64] == [0; 64] && page[PAGE - 64..] == [0; 64]
 }
 
-/// Whether its scan is likely to cost little: the last byte of each sector lies where the first two point.
+/// Whether the question is worth its scan: in each sector some bytes, the last among them, lie where the first two point. A wrong guess costs a scan.
 fn looks_exact(page: &[u8]) -> bool {
-    (0..PAGE).step_by(SECTOR).all(|start| {
-        let last = (start + SECTOR).min(SHIFTED) - 1;
-        let step = page[start + 1].wrapping_sub(page[start]);
-        page[last] == page[start].wrapping_add(step.wrapping_mul((last - start) as u8))
+    page[..SHIFTED].chunks(SECTOR).all(|data| {
+        let step = data[1].wrapping_sub(data[0]);
+        let on_line = |place: usize| data[place] == data[0].wrapping_add(step.wrapping_mul(place as u8));
+        on_line(data.len() - 1) && (0..data.len()).step_by(GUESSED).all(on_line)
     })
 }
+
+/// One byte in so many is looked at.
+const GUESSED: usize = 31;
 
 /// By comparison, which the system's library does with the widest numbers that the processor has.
 pub fn is_zero(bytes: &[u8]) -> bool {
     static ZEROS: [u8; PAGE] = [0; PAGE];
     bytes.chunks(PAGE).all(|page| page == &ZEROS[..page.len()])
+}
+
+#[cfg(test)]
+mod tests {
+    use lumeviqo::Evidence;
+
+    use super::*;
+
+    /// A stored page of block 1, with a step for each sector, and a good CRC.
+    fn page(number: u64, bv: u8, data: &[u8], rows: u8) -> Vec<u8> {
+        let mut page = vec![0; PAGE];
+        for (at, byte) in data.iter().enumerate() {
+            let (sector, place) = ((at / SECTOR) as u64, (at % SECTOR) as u64);
+            let shift = number + sector + 256 - 4 * (number % BLOCK / 2) + place * (37 * number + 29 * sector);
+            page[at] = byte.wrapping_add(shift as u8).wrapping_add(bv);
+        }
+        page[0xFF0] = rows;
+        page[0xFF2] = b'E';
+        let crc = lumeviqo::crc32(&page[..PAGE - 4]);
+        page[PAGE - 4..].copy_from_slice(&crc.to_le_bytes());
+        page
+    }
+
+    /// Zeros, so that each sector has one value.
+    fn level() -> Vec<u8> {
+        vec![0; SHIFTED]
+    }
+
+    /// Zeros but for four slots that end behind 0x300, and their number before them.
+    fn listed() -> Vec<u8> {
+        let mut data = level();
+        data[0x2FA] = 4;
+        (0..4).for_each(|slot| data[0x2FF + 2 * slot] = 0xF - slot as u8);
+        data
+    }
+
+    /// Noise from place `from` on, which no step fits, where `looks_exact` does not look.
+    fn noisy(from: usize, to: usize) -> Vec<u8> {
+        let mut data = level();
+        let mut x: u32 = 9;
+        for (place, byte) in (0..SECTOR).cycle().zip(&mut data).take(to).skip(from) {
+            x = x.wrapping_mul(1_664_525).wrapping_add(1_013_904_223);
+            *byte = if place % GUESSED == 0 || place == 1 || place == SECTOR - 1 { 0 } else { (x >> 24) as u8 };
+        }
+        data
+    }
+
+    /// A vote for bv in the last sector alone, and zeros that make it the commonest value.
+    fn one_vote() -> Vec<u8> {
+        let mut data = noisy(0, 7 * SECTOR);
+        [0, 1].into_iter().for_each(|first| data.iter_mut().skip(first).step_by(5).for_each(|byte| *byte = 0));
+        data
+    }
+
+    /// The slots speak for bv, one sector votes for it, and the commonest value is another.
+    fn contested(other: u8) -> Vec<u8> {
+        let mut data = listed();
+        data[2 * SECTOR..].fill(other);
+        data[2 * SECTOR..].chunks_mut(SECTOR).for_each(|sector| sector[7] = 0);
+        data
+    }
+
+    fn readings(pages: &[(u64, Vec<u8>)], options: Options, explained: bool) -> Vec<PageReading> {
+        let stored = pages.iter().map(|(number, bytes)| Stored { explained, ..Stored::new(*number, bytes, 0) });
+        read_block(stored, &(BLOCK..2 * BLOCK), options)
+    }
+
+    /// All that is told of a page, but for its evidence.
+    fn told(page: &PageReading) -> String {
+        let answer = match &page.answer {
+            Answer::Accepted(accepted) => {
+                let decoding = Decoding { evidence: Vec::new(), ..accepted.decoding.clone() };
+                format!("{decoding:?} {:?} {:?}", accepted.plain, accepted.row_count)
+            }
+            other => format!("{:?}", other.number()),
+        };
+        format!("{} {} {:?} {answer}", page.number, page.outcome, page.trailer)
+    }
+
+    fn evidence(page: &PageReading) -> &[Evidence] {
+        match &page.answer {
+            Answer::Accepted(accepted) => &accepted.decoding.evidence,
+            _ => &[],
+        }
+    }
+
+    fn block() -> Vec<(u64, Vec<u8>)> {
+        let made = [
+            page(16, 0x5A, &level(), 0),
+            page(17, 0x5A, &one_vote(), 0),
+            page(18, 0x5A, &level(), 2),
+            page(19, 0x5A, &level(), 5),
+            page(20, 0x5A, &listed(), 4),
+            page(21, 0x5A, &noisy(5 * SECTOR, 6 * SECTOR), 0),
+            page(22, 0x91, &level(), 60),
+            page(23, 0x5A, &contested(0x91 - 0x5A), 4),
+            vec![0; PAGE],
+        ];
+        (BLOCK..).zip(made).collect()
+    }
+
+    #[test]
+    fn what_anchors_cannot_change_is_told_as_with_them() {
+        let pages = block();
+        for leniency in [Leniency::STRICT, Leniency::KEYSTREAM, Leniency::DIRECTORY, Leniency::INTEGRITY] {
+            for (min_trailer_count, search_limit) in [(4, 768), (4, 2048), (0, 768), (200, 2048), (4, 7)] {
+                let options = Options { leniency, min_trailer_count, search_limit };
+                let [short, long] = [false, true].map(|explained| readings(&pages, options, explained));
+                short.iter().zip(&long).for_each(|(a, b)| assert_eq!(told(a), told(b), "{options:?}"));
+            }
+        }
+    }
+
+    #[test]
+    fn the_pages_are_what_they_are_said_to_be() {
+        let pages = block();
+        let outcomes = |options| readings(&pages, options, false).iter().map(|page| page.outcome.to_string()).collect::<Vec<_>>();
+        let usual = outcomes(Options::default());
+        assert!(pages.iter().all(|(_, bytes)| looks_exact(bytes)));
+        assert_eq!(usual[..4], ["calibrated", "corroborated", "calibrated", "calibrated"]);
+        assert_eq!(usual[4..], ["calibrated", "undecided", "calibrated", "undecided", "unallocated"]);
+        assert_eq!(
+            outcomes(Options { search_limit: 2048, ..Options::default() })[4..8],
+            ["verified", "undecided", "calibrated", "undecided"]
+        );
+        let alone = readings(&pages[7..], Options { search_limit: 2048, ..Options::default() }, false);
+        assert_eq!(alone[0].outcome.to_string(), "verified");
+    }
+
+    #[test]
+    fn a_page_that_is_explained_has_its_anchors_among_the_evidence() {
+        let pages = block();
+        assert!(evidence(&readings(&pages, Options::default(), true)[0]).contains(&Evidence::BlockAnchor));
+        assert!(!evidence(&readings(&pages, Options::default(), true)[6]).contains(&Evidence::BlockAnchor));
+    }
+
+    #[test]
+    fn page_0_gives_no_anchor() {
+        let pages = [(0, page(0, 0x5A, &level(), 0)), (1, page(1, 0x5A, &one_vote(), 0))];
+        for explained in [false, true] {
+            let stored = pages.iter().map(|(number, bytes)| Stored { explained, ..Stored::new(*number, bytes, 0) });
+            assert_eq!(read_block(stored, &(0..BLOCK), Options::default())[1].outcome.to_string(), "undecided");
+        }
+    }
 }

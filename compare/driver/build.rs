@@ -8,7 +8,7 @@ fn main() {
     println!("cargo::rustc-check-cfg=cfg(before)");
     println!("cargo::rerun-if-env-changed=LUMEVIQO_BEFORE");
     println!("cargo::rerun-if-env-changed=LUMEVIQO_LIB");
-    let Some(before) = env::var_os("LUMEVIQO_BEFORE") else { return };
+    let Some(before) = env::var_os("LUMEVIQO_BEFORE").filter(|folder| !folder.is_empty()) else { return };
     let now = env::var_os("LUMEVIQO_LIB").unwrap_or("../../target/staticlib".into());
     link("before", before.as_ref());
     link("now", now.as_ref());

@@ -17,7 +17,7 @@ use compare::timing::{Group, table, time};
 use lumeviqo::{Fits, Leniency, Options, PAGE, SHIFTED};
 use oracle::{Reading, timed};
 
-/// What a kind of page sets the limits of. A replacement is held to the original's scan.
+/// The limits for a kind of page. A replacement is held to the original's scan.
 #[derive(Clone, Copy)]
 struct Limits {
     scan: f64,
