@@ -4,6 +4,7 @@ import io
 import json
 import os
 import shutil
+import signal
 import subprocess
 import tempfile
 import unittest
@@ -20,6 +21,8 @@ SAMPLES = ROOT / "samples"
 LONGEST = 60  # seconds that any one run may take
 # What the program goes by, whoever runs the tests.
 ENVIRONMENT = {name: value for name, value in os.environ.items() if name not in ("NO_COLOR", "RUST_BACKTRACE")} | {"TERM": "xterm-256color"}
+# A job that a shell puts in the background ignores Ctrl-C, and so would the program.
+signal.signal(signal.SIGINT, signal.default_int_handler)
 
 EXISTS = "it is there already, and nothing is written over: choose another name, or remove it first"
 PART_EXISTS = "it is there already, from a run that was cut off or still goes on: remove it if it is not needed"
