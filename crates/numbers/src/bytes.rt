@@ -1,6 +1,6 @@
-// Bytes copied, and zeros.
+// Bytes copied, and one byte many times.
 ghost use mathlib.Core.Path.{_≡_};
-ghost use lib.ListN.{replicate};
+ghost use lib.ListN.{length, replicate};
 ghost use Rattle.numbers.specs.Writes.{Wrote, copied};
 
 // All of `out`, where it is as long as `from`; else it stays as it is.
@@ -13,6 +13,17 @@ pub fn copy(from: &[u8], out: &mut [u8])
     let mut i: usize = 0;
     while i < from.len() {
         out[i] = from[i];
+        i += 1;
+    }
+}
+
+// One byte at every place.
+pub fn fill(out: &mut [u8], x: u8)
+    ensures { λ _. ⌜ now (out .exit) ≡ replicate (length (now (out .entry))) x ⌝ }
+{
+    let mut i: usize = 0;
+    while i < out.len() {
+        out[i] = x;
         i += 1;
     }
 }

@@ -5,6 +5,7 @@ mod puts;
 mod values;
 
 pub use bytes::copy;
+pub use bytes::fill;
 pub use bytes::put_bytes;
 pub use bytes::put_zeros;
 pub use puts::put_big_u16;

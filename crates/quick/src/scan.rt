@@ -1,7 +1,7 @@
 // The scan of a sector, at once where it is exact.
 ghost use mathlib.Core.Path.{_≡_};
 ghost use Prim.Native.Nat.{_≤_};
-ghost use lib.ListN.{length, replicate};
+ghost use lib.ListN.{length};
 ghost use Rattle.sector.specs.Scan.{sectorFit, sectorOut};
 ghost use Rattle.quick.specs.Line.{exactFit};
 use crate::line::first_break;
@@ -15,9 +15,9 @@ pub fn scan_sector(stored: &[u8], offset: u8, out: &mut [u8]) -> Fit
 {
     let n = stored.len();
     if n < 2 || n > 512 || out.len() != n || first_break(stored) < n {
-        return sector::scan_sector(stored, offset, out);
+        return classes::scan_sector(stored, offset, out);
     }
-    fill(out, std::num::wrapping_sub_u8(stored[0], offset));
+    numbers::fill(out, std::num::wrapping_sub_u8(stored[0], offset));
     exact_fit(first_step(stored), n)
 }
 
@@ -33,15 +33,5 @@ fn exact_fit(step: u8, n: usize) -> Fit
         runner_up: half as u16,
         exact: true,
         tied: 1,
-    }
-}
-
-fn fill(out: &mut [u8], x: u8)
-    ensures { λ _. ⌜ now (out .exit) ≡ replicate (length (now (out .entry))) x ⌝ }
-{
-    let mut i: usize = 0;
-    while i < out.len() {
-        out[i] = x;
-        i += 1;
     }
 }

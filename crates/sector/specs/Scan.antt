@@ -5,7 +5,7 @@ use mathlib.Core.List.{List}
 use lib.Dec.{eqb, leb}
 use lib.ListN.{length, replicate}
 use Rattle.lists.specs.Cases.{pick}
-use Rattle.sector.specs.Fit.{fitOf, sectorOf}
+use Rattle.sector.specs.Fit.{shiftedList, modalAt, fitOf, sectorOf}
 use Rattle.sector.specs.declared.fits.Fit.{Fit}
 
 abbrev pub blankFit : Fit
@@ -25,3 +25,10 @@ sectorFit offset bytes n = ifScanned (length bytes) n (fitOf offset bytes) blank
 -- and what the buffer holds afterwards
 unfoldable pub sectorOut : ℕ → List ℕ → List ℕ → List ℕ
 sectorOut offset bytes out = ifScanned (length bytes) (length out) (sectorOf offset bytes) out
+
+-- for one step: the modal count, and the shifted bytes
+unfoldable pub sectorModal : ℕ → List ℕ → ℕ → ℕ → ℕ
+sectorModal offset bytes step n = ifScanned (length bytes) n (modalAt offset bytes step) 0
+
+unfoldable pub sectorShifted : ℕ → List ℕ → ℕ → List ℕ → List ℕ
+sectorShifted offset bytes step out = ifScanned (length bytes) (length out) (shiftedList offset step bytes) out

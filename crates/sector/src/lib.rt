@@ -13,5 +13,7 @@ pub use arith::shifted;
 pub use arith::wrapping_mul_u8;
 pub use fits::Fit;
 pub use same::all_same;
+pub use scan::modal_count;
 pub use scan::scan_sector;
+pub use scan::write_shifted;
 pub use search::table_fit;

@@ -4,8 +4,8 @@ ghost use Prim.Native.Nat.{_<_, _≤_};
 ghost use lib.ListN.{length, getD};
 ghost use Rattle.lists.specs.Counts.{greatest, Tallies};
 ghost use Rattle.lists.specs.Pieces.{each};
-ghost use Rattle.sector.specs.Fit.{shiftedList, modalAt, fitOf};
-ghost use Rattle.sector.specs.Scan.{sectorFit, sectorOut};
+ghost use Rattle.sector.specs.Fit.{modalAt, fitOf};
+ghost use Rattle.sector.specs.Scan.{sectorFit, sectorOut, sectorModal, sectorShifted};
 use crate::arith::shifted;
 use crate::fits::Fit;
 use crate::search::table_fit;
@@ -50,11 +50,18 @@ fn modal_counts(stored: &[u8], offset: u8, room: &mut [u8]) -> [u16; 256]
     counts
 }
 
-// Counted first and compared after: the two loops are faster than one that keeps the greatest count.
-fn modal_count(stored: &[u8], offset: u8, step: u8, room: &mut [u8]) -> u16
-    requires { ⌜ (length (now stored) ≤ 512) × (length (now room) ≡ length (now stored)) ⌝ }
-    ensures { λ r. ⌜ r ≡ modalAt offset (now (stored .entry)) step ⌝ }
+// The modal count of one step; its shifted bytes go into `room`. 0 where a scan would give a blank, and `room` stays. Counted first and compared after: the
+// two loops are faster than one that keeps the greatest count.
+pub fn modal_count(stored: &[u8], offset: u8, step: u8, room: &mut [u8]) -> u16
+    ensures { λ r. ⌜ r ≡ sectorModal offset (now (stored .entry)) step (length (now (room .entry))) ⌝ }
+    ensures { λ r. ⌜ now (room .exit) ≡ sectorShifted offset (now (stored .entry)) step (now (room .entry)) ⌝ }
 {
+    if stored.len() > 512 {
+        return 0;
+    }
+    if room.len() != stored.len() {
+        return 0;
+    }
     write_shifted(stored, offset, step, room);
     largest(histogram(room))
 }
@@ -87,10 +94,16 @@ fn largest(hist: [u16; 256]) -> u16
     most
 }
 
-fn write_shifted(stored: &[u8], offset: u8, step: u8, out: &mut [u8])
-    requires { ⌜ length (now out) ≡ length (now stored) ⌝ }
-    ensures { λ r. ⌜ now (out .exit) ≡ shiftedList offset step (now (stored .entry)) ⌝ }
+// The shifted bytes under a step. Where a scan would give a blank `out` stays.
+pub fn write_shifted(stored: &[u8], offset: u8, step: u8, out: &mut [u8])
+    ensures { λ r. ⌜ now (out .exit) ≡ sectorShifted offset (now (stored .entry)) step (now (out .entry)) ⌝ }
 {
+    if stored.len() > 512 {
+        return;
+    }
+    if out.len() != stored.len() {
+        return;
+    }
     let mut i: usize = 0;
     while i < out.len() {
         out[i] = shifted(stored[i], offset, i, step);

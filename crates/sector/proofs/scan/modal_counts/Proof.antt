@@ -3,9 +3,11 @@ use borrow.Author.Needs.{needs}
 use Prim.Native.Nat.{_-_}
 use mathlib.Core.Path.{_≡_, refl, sym, _∙_}
 use native.Mathlib.Omega.{arith}
+use denote.Ref.{now}
 use lib.ListN.{length}
 use Rattle.lists.proofs.Filled.{Filled, filled-none, filled-more, filled-all}
 use Rattle.sector.specs.Fit.{modalAt}
+use Rattle.sector.proofs.Scans.{modal-scanned}
 use Rattle.sector.proofs.scan.modal_counts.Statement.{statement}
 use Rattle.sector.proofs.scan.modal_counts.Tie as tie
 
@@ -20,9 +22,14 @@ loop-holds c = (c .before .before .pre .1, filled-none _ _ _ refl)
 
 loop-again : tie.Need-loop-again Inv-loop μ-loop
 loop-again c =
+    let a = c .before .before .before .before .before .before .before .before .args in
+    let small = c .before .before .before .before .before .before .before .before .pre .0 in
     let l = c .before .before .before .before .before .loop in
-    let p = c .before .before .modal-count in
-    (p .kept .1 .1 .1 .0 ∙ l .inv .0, filled-more _ _ _ (l .step) (p .result) (l .inv .1) (omega arith) (p .ensures))
+    let p = c .before .before .modal-count in (
+      p .kept .1 .1 .1 .0 ∙ l .inv .0,
+      filled-more _ _ _ (l .step) (p .result) (l .inv .1) (omega arith)
+          (p .ensures .0 ∙ modal-scanned (a .offset) (now (a .stored)) (l .step) (l .room) small (l .inv .0)),
+    )
 
 same-length : tie.Need-same-length Inv-loop μ-loop
 same-length c = c .before .loop .inv .0 ∙ sym (c .before .before .before .before .pre .1)

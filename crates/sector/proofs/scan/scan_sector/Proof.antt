@@ -7,7 +7,7 @@ use denote.Ref.{now}
 use lib.ListN.{length}
 use Rattle.sector.specs.Fit.{shiftedList, sectorOf}
 use Rattle.sector.specs.declared.fits.Fit.{Fit}
-use Rattle.sector.proofs.Scans.{fit-long, out-long, fit-other, out-other, fit-scanned, out-scanned}
+use Rattle.sector.proofs.Scans.{fit-long, out-long, fit-other, out-other, fit-scanned, out-scanned, shifted-scanned}
 use Rattle.sector.proofs.scan.scan_sector.Statement.{statement}
 use Rattle.sector.proofs.scan.scan_sector.Tie as tie
 
@@ -33,6 +33,7 @@ returns-3 c =
     let e : length (now (a .out)) ≡ length (now (a .stored)) = omega arith in (
       f .ensures ∙ sym (fit-scanned (a .offset) (now (a .stored)) (now (a .out)) h e),
       c .before .before .write-shifted .ensures
+          ∙ shifted-scanned (a .offset) (now (a .stored)) (f .result .step) _ h (f .kept .1 .1 .0 ∙ e)
           ∙ ap (λ (r : Fit). shiftedList (a .offset) (r .step) (now (a .stored))) (f .ensures)
           ∙ sym (out-scanned (a .offset) (now (a .stored)) (now (a .out)) h e),
     )

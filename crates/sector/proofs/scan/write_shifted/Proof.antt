@@ -10,6 +10,7 @@ use lib.ListN.{length, set, take, length-set}
 use lib.Seq.{take-suc-set, take-all}
 use Rattle.sector.specs.Fit.{shiftFrom, shiftedList}
 use Rattle.sector.proofs.Shifts.{shift-more, shift-all}
+use Rattle.sector.proofs.Scans.{shifted-long, shifted-other, shifted-scanned}
 use Rattle.sector.proofs.scan.write_shifted.Statement.{statement}
 use Rattle.sector.proofs.scan.write_shifted.Tie as tie
 
@@ -20,13 +21,23 @@ Inv-loop stored offset step out₀ i₀ out i =
 abbrev μ-loop : tie.MeasureT-loop
 μ-loop stored offset step out₀ i₀ out i = length stored - i
 
+returns : tie.Need-returns Inv-loop μ-loop
+returns c =
+    let a = c .before .before .before .args in
+    shifted-long (a .offset) (now (a .stored)) (a .step) (now (a .out)) (search needs)
+
+returns-2 : tie.Need-returns-2 Inv-loop μ-loop
+returns-2 c =
+    let a = c .before .before .before .before .args in
+    shifted-other (a .offset) (now (a .stored)) (a .step) (now (a .out)) (omega arith) (c .if2 .taken)
+
 loop-holds : tie.Need-loop-holds Inv-loop μ-loop
 unfolding shiftFrom
 loop-holds c = (search needs, search needs, refl)
 
 loop-again : tie.Need-loop-again Inv-loop μ-loop
 loop-again c =
-    let a = c .before .before .before .before .before .before .args in
+    let a = c .before .before .before .before .before .before .before .before .args in
     let l = c .before .before .before .loop in
     let x = c .shifted .result in
     let hx : l .i < length (l .out) = omega arith in (
@@ -39,11 +50,14 @@ loop-again c =
           ∙ sym (shift-more (a .offset) (a .step) (now (a .stored)) (l .i) (omega arith)),
     )
 
-returns : tie.Need-returns Inv-loop μ-loop
-returns c =
-    let a = c .before .before .before .before .args in
+returns-3 : tie.Need-returns-3 Inv-loop μ-loop
+returns-3 c =
+    let a = c .before .before .before .before .before .before .args in
     let l = c .before .loop in
-    sym (take-all (l .i) (l .out) (omega arith)) ∙ l .inv .2 ∙ shift-all (a .offset) (a .step) (now (a .stored)) (l .i) (omega arith)
+    sym (take-all (l .i) (l .out) (omega arith))
+    ∙ l .inv .2
+    ∙ shift-all (a .offset) (a .step) (now (a .stored)) (l .i) (omega arith)
+    ∙ sym (shifted-scanned (a .offset) (now (a .stored)) (a .step) (now (a .out)) (omega arith) (omega arith))
 
 pub write-shifted-spec : {M : Type 1} → statement M
 write-shifted-spec =
@@ -51,6 +65,8 @@ write-shifted-spec =
     (tie.spec
     Inv-loop
     μ-loop
+    returns
+    returns-2
     loop-holds
     (λ c. search needs)
     (λ c κs. search needs)
@@ -59,4 +75,4 @@ write-shifted-spec =
     (λ c. search needs)
     loop-again
     (λ c. search needs)
-    returns)
+    returns-3)

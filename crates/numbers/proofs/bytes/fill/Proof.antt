@@ -7,8 +7,8 @@ use denote.Ref.{now}
 use lib.ListN.{length}
 use Rattle.lists.proofs.Each.{each-replicate}
 use Rattle.lists.proofs.Filled.{Filled, filled-none, filled-more, filled-all}
-use Rattle.quick.proofs.scan.fill.Statement.{statement}
-use Rattle.quick.proofs.scan.fill.Tie as tie
+use Rattle.numbers.proofs.bytes.fill.Statement.{statement}
+use Rattle.numbers.proofs.bytes.fill.Tie as tie
 
 abbrev Inv-loop : tie.InvT-loop
 Inv-loop out₀ x i₀ out i = Filled (λ k. x) (length out₀) i out
