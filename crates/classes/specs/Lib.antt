@@ -1,2 +1,4 @@
--- What the contracts of private functions of `classes` cite. The public one has the contract of `sector::scan_sector`.
+-- What the contracts of private functions of `classes` cite, and the engine's table as a definition. The public function has the contract of
+-- `sector::scan_sector`.
 pub mod Steps
+pub mod Engine
