@@ -1,7 +1,6 @@
 -- Laws of the counts of classes: a value's count is that of q classes together, and a class is two of twice as many. Assumes nothing.
 use Prim.Native.Nat.{ℕ, _+_, _*_, _%_, _≤_, _<_}
 use mathlib.Core.Path.{_≡_, refl, sym, ap, ap₂, _∙_}
-use mathlib.Core.Bool.{Bool}
 use mathlib.Core.List.{List}
 use native.Mathlib.Nat.{zero-add, mul-comm, mul-assoc, add-mul, mul-add, mul-one, zero-mul, one-mul}
 use native.Mathlib.Decide.{ℕ-discrete}
@@ -13,42 +12,32 @@ use Rattle.lists.specs.Bytes.{less, byteAt}
 use Rattle.lists.specs.Counts.{count, howMany, sum}
 use Rattle.lists.proofs.Count.{count-many}
 use Rattle.lists.proofs.Many.{many-ext, many-le}
-use Rattle.lists.proofs.Plain.{less-byte}
+use Rattle.lists.proofs.Plain.{less-byte, less-add}
 use Rattle.lists.proofs.Sums.{sum-ext, many-classes}
 use Rattle.sector.specs.Byte.{shiftedOf}
 use Rattle.sector.specs.Fit.{shiftedList}
-use Rattle.sector.proofs.Bytes.{less-of, less-mod, mul-mod}
-use Rattle.sector.proofs.Shifts.{shift-length, shift-at}
+use Rattle.sector.proofs.Bytes.{less-of, less-mod, less-sum, mul-mod}
+use Rattle.sector.proofs.Shifts.{shift-length, shifted-at}
 use Rattle.rings.specs.Class.{classCount}
 
 -- ---- one byte
 
-turned : (c v x y d : ℕ) → c < 256 → v < 256 → x ≡ y + d → v ≡ less c x → (v + d) % 256 ≡ less c y
-turned c v x y d hc hv e q = omega arith
-
-regrouped : (v d y x c : ℕ) → x ≡ y + d → ((v + d) % 256 + y) % 256 ≡ c → (v + x) % 256 ≡ c
-regrouped v d y x c e a = omega arith
-
-put-back : (c v x : ℕ) → c < 256 → v < 256 → v ≡ less c x → (v + x) % 256 ≡ c
-put-back c v x hc hv e = omega arith
-
-turned-back : (c v x y d : ℕ) → c < 256 → v < 256 → x ≡ y + d → (v + d) % 256 ≡ less c y → v ≡ less c x
-turned-back c v x y d hc hv e q = less-of c x v hv (regrouped v d y x c e (put-back c ((v + d) % 256) y hc (omega arith) q))
-
--- a byte less y + d is v where less y it is v turned by d
-less-turned : (c v x y d : ℕ) → c < 256 → v < 256 → x ≡ y + d → eqb v (less c x) ≡ eqb ((v + d) % 256) (less c y)
-less-turned c v x y d hc hv e = go (ℕ-discrete v (less c x))
+-- a byte less d is v where it is v turned by d
+less-turned : (z v d : ℕ) → z < 256 → v < 256 → eqb v (less z d) ≡ eqb ((v + d) % 256) z
+less-turned z v d hz hv = go (ℕ-discrete v (less z d))
   where
-    go : Dec (v ≡ less c x) → eqb v (less c x) ≡ eqb ((v + d) % 256) (less c y)
-    go (yes q) = eq-eqb v (less c x) q ∙ sym (eq-eqb ((v + d) % 256) (less c y) (turned c v x y d hc hv e q))
-    go (no ne) = ne-eqb v (less c x) ne ∙ sym (ne-eqb ((v + d) % 256) (less c y) (λ q. ne (turned-back c v x y d hc hv e q)))
+    go : Dec (v ≡ less z d) → eqb v (less z d) ≡ eqb ((v + d) % 256) z
+    go (yes q) = eq-eqb v (less z d) q ∙ sym (eq-eqb ((v + d) % 256) z (ap (λ (x : ℕ). (x + d) % 256) q ∙ less-add z d hz))
+    go (no ne) = ne-eqb v (less z d) ne ∙ sym (ne-eqb ((v + d) % 256) z (λ q. ne (less-of z d v hv q)))
 
 -- byte j of class r of q: its place in the sector counts for r steps, and its place in the class for q steps each
 class-byte : (b o q r s j v : ℕ) → v < 256 → eqb v (shiftedOf b o (q * j + r) s) ≡ eqb ((v + r * s) % 256) (shiftedOf b o j (q * s))
 unfolding shiftedOf
 class-byte b o q r s j v hv =
-    less-turned (less b o) v ((q * j + r) * s) (j * (q * s)) (r * s) (less-byte b o) hv
-    (add-mul (q * j) r s ∙ ap (λ (x : ℕ). x + r * s) (ap (λ (x : ℕ). x * s) (mul-comm q j) ∙ mul-assoc j q s))
+    let apart : (q * j + r) * s ≡ j * (q * s) + r * s =
+    add-mul (q * j) r s ∙ ap (λ (x : ℕ). x + r * s) (ap (λ (x : ℕ). x * s) (mul-comm q j) ∙ mul-assoc j q s) in
+    ap (eqb v) (ap (less (less b o)) apart ∙ less-sum (less b o) (j * (q * s)) (r * s))
+    ∙ less-turned (less (less b o) (j * (q * s))) v (r * s) (less-byte (less b o) (j * (q * s))) hv
 
 step-same : (j k m : ℕ) → k % 256 ≡ m % 256 → (j * k) % 256 ≡ (j * m) % 256
 step-same j k m e =
@@ -117,6 +106,6 @@ count-classes l q n o s v size hv =
     count-many v (shiftedList o s l)
     ∙ ap (howMany (λ i. eqb v (byteAt (shiftedList o s l) i))) (shift-length o s 0 l ∙ sym size)
     ∙ many-ext _ (λ i. eqb v (shiftedOf (byteAt l i) o i s)) (q * n)
-    (λ i h. ap (eqb v) (shift-at o s l 0 i (omega arith) ∙ ap (λ (j : ℕ). shiftedOf (byteAt l i) o j s) (zero-add i)))
+    (λ i h. ap (eqb v) (shifted-at o s l i (omega arith)))
     ∙ many-classes (λ i. eqb v (shiftedOf (byteAt l i) o i s)) q n
     ∙ sum-ext _ _ q (λ r h. many-ext _ _ n (λ j k. class-byte (byteAt l (q * j + r)) o q r s j v hv))

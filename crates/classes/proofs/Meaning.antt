@@ -1,4 +1,4 @@
--- The engine's table is that of the modal counts, at every length that is a multiple of 16 up to 512. Assumes nothing.
+-- The engine's table holds the modal counts up to 255, at every length that is a multiple of 16 up to 512. Assumes nothing.
 use Prim.Native.Nat.{ℕ, _*_, _/_, _%_, _≤_, _<_}
 use mathlib.Core.Path.{_≡_, refl}
 use mathlib.Core.List.{List}
@@ -13,6 +13,7 @@ use Rattle.classes.proofs.Tables.{folded-peak}
 module _ (o : ℕ) (l : List ℕ) (s : Sixteens l) (k : ℕ) where
   -- at every step it is the modal count, which stops at 255
   pub table-modal : engineAt o l k ≡ cap (modalAt o l k)
+  unfolding engineAt
   table-modal =
       let n : ℕ = length l / 16 in
       let size : 16 * n ≡ length l = omega (arith, s .whole) in
@@ -20,5 +21,5 @@ module _ (o : ℕ) (l : List ℕ) (s : Sixteens l) (k : ℕ) where
       folded-peak l o n size short (sixteenFor o l k) (twiceFor o l k) _ (k % 32) (omega arith) refl refl _ (omega arith) k (omega arith)
 
   -- below that it is the modal count itself
-  pub table-whole : engineAt o l k < 255 → engineAt o l k ≡ modalAt o l k
-  table-whole h = omega (arith, table-modal)
+  pub table-below : engineAt o l k < 255 → engineAt o l k ≡ modalAt o l k
+  table-below h = omega (arith, table-modal)

@@ -5,10 +5,10 @@ use mathlib.Core.List.{List}
 use native.Mathlib.Decide.{ℕ-discrete}
 use native.Mathlib.Omega.{arith}
 use lib.ListN.{length, set, length-set}
-use lib.Seq.{getD-set-same, getD-set-other, ext-getD}
+use lib.Seq.{getD-set-same, getD-set-other}
 use Rattle.lists.specs.Bytes.{byteAt}
 use Rattle.lists.specs.Pieces.{each}
-use Rattle.lists.proofs.Each.{each-length, each-at}
+use Rattle.lists.proofs.Each.{each-all}
 use Rattle.classes.specs.Steps.{Fills, stepPeak}
 
 -- a place that is right, or becomes so
@@ -116,6 +116,4 @@ known-more f g h m a b c hm known u near w far =
     at k hk q (no n) (no p) = w .old k hk p ∙ u .old k hk n ∙ known .at k hk (omega arith)
 
 pub known-all : (f : ℕ → ℕ) (n : ℕ) (t : List ℕ) → n ≡ 16 → Known f n t → t ≡ each f 256
-known-all f n t e known =
-    ext-getD 0 t (each f 256) (known .size ∙ sym (each-length f 256))
-    (λ k h. known .at k (omega (arith, known .size)) (omega arith) ∙ sym (each-at f 256 k 0 (omega (arith, known .size))))
+known-all f n t e known = each-all f 256 t (known .size) (λ k h. known .at k h (omega arith))

@@ -15,7 +15,7 @@ use Rattle.sector.specs.Fit.{shiftedList, modalOf, modalAt}
 use Rattle.rings.specs.Class.{classCount, cap}
 use Rattle.rings.specs.Table.{talliedAt, doubledAt, foldedAt}
 use Rattle.rings.specs.Peak.{ringAt, sumAt, peakAt}
-use Rattle.classes.specs.Steps.{stepPeak}
+use Rattle.classes.specs.Steps.{foldedFor, stepPeak}
 use Rattle.classes.proofs.Classes.{class-le, class-step, class-halves, count-classes}
 
 -- ---- sums that stop at 255
@@ -112,9 +112,12 @@ module _ (l : List ℕ) (o n : ℕ) (size : 16 * n ≡ length l) (short : n ≤ 
           ∙ ap (byteAt sixteen) (omega arith)
           ∙ sixteen-holds (r + 8) (y % 256) (omega arith) (omega arith)
 
-      module _ (x : ℕ) (turn : x ≡ (8 * s) % 256) where
+      module _ (m : ℕ) (turn : m * 8 ≡ (8 * s) % 256) where
+        abbrev x : ℕ
+        x = m * 8
+
         abbrev eight : List ℕ
-        eight = each (foldedAt sixteen twice x) 4096
+        eight = foldedFor sixteen twice m
 
         eight-holds : (r y : ℕ) → r < 8 → y < 512 → byteAt eight (r * 512 + y) ≡ cap (classCount l 8 r o (8 * s) (2 * n) (y % 256))
         eight-holds r y hr hy =

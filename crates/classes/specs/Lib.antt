@@ -1,4 +1,4 @@
--- What the contracts of private functions of `classes` cite, and the engine's table as a definition. The public function has the contract of
+-- What the contracts of private functions of `classes` cite: tables, and the engine's table. The public function has the contract of
 -- `sector::scan_sector`.
 pub mod Steps
 pub mod Engine

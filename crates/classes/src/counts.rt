@@ -1,12 +1,12 @@
 // The modal counts of the 256 steps: all of them up to 255 from rings, and those that reach it by a histogram.
 ghost use mathlib.Core.Path.{_≡_};
-ghost use Prim.Native.Nat.{_*_, _≤_, _<_};
+ghost use Prim.Native.Nat.{_≤_, _<_};
 ghost use lib.ListN.{length};
 ghost use Rattle.lists.specs.Pieces.{each};
 ghost use Rattle.sector.specs.Fit.{modalAt};
 ghost use Rattle.rings.specs.Class.{cap};
-ghost use Rattle.rings.specs.Table.{foldedAt};
-ghost use Rattle.classes.specs.Steps.{Sixteens, Fills, stepPeak};
+ghost use Rattle.classes.specs.Engine.{engineAt};
+ghost use Rattle.classes.specs.Steps.{Sixteens, Fills, foldedFor, stepPeak};
 
 // `room` takes the shifted bytes of a step that is counted again.
 pub(crate) fn modal_counts(stored: &[u8], offset: u8, room: &mut [u8]) -> [u16; 256]
@@ -34,10 +34,9 @@ fn recount(capped: u8, stored: &[u8], offset: u8, step: u8, room: &mut [u8]) -> 
     sector::modal_count(stored, offset, step, room)
 }
 
-// The modal counts, which stop at 255. Those of the steps m and m + 16, m + 32 and so on come from one counting of the bytes.
+// The modal counts, which stop at 255. Those of the steps m, m + 16, m + 32 and so on come from one counting of the bytes.
 fn capped_counts(stored: &[u8], offset: u8) -> [u8; 256]
-    requires { ⌜ Sixteens (now stored) ⌝ }
-    ensures { λ r. ⌜ r ≡ each (λ k. cap (modalAt offset (now (stored .entry)) k)) 256 ⌝ }
+    ensures { λ r. ⌜ r ≡ each (engineAt offset (now (stored .entry))) 256 ⌝ }
 {
     let mut sixteen = table();
     let mut twice = table();
@@ -54,7 +53,7 @@ fn capped_counts(stored: &[u8], offset: u8) -> [u8; 256]
     counts
 }
 
-// Room for rings. The contract gives its length alone.
+// Room for rings. The contract gives its length alone: what stands there is written over.
 fn table() -> [u8; 4096]
     ensures { λ r. ⌜ length r ≡ 4096 ⌝ }
 {
@@ -71,7 +70,7 @@ fn count_eight(
 )
     requires { ⌜ (s < 32) × (length (now eight) ≡ 4096) × (length (now counts) ≡ 256) ⌝ }
     ensures { λ r. ⌜ length (now (eight .exit)) ≡ 4096 ⌝ }
-    ensures { λ r. ⌜ Fills (stepPeak (each (foldedAt (now (sixteen .entry)) (now (twice .entry)) (s * 8)) 4096)) 32 s (now (counts .entry)) (now (counts .exit)) ⌝ }
+    ensures { λ r. ⌜ Fills (stepPeak (foldedFor (now (sixteen .entry)) (now (twice .entry)) s)) 32 s (now (counts .entry)) (now (counts .exit)) ⌝ }
 {
     rings::fold(sixteen, twice, (s * 8) as u8, eight);
     count_four(eight, s, counts);

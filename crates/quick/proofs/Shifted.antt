@@ -2,7 +2,7 @@
 use Prim.Native.Nat.{ℕ, _+_, _*_, _%_, _<_}
 use mathlib.Core.Path.{_≡_, sym, ap, _∙_}
 use mathlib.Core.List.{List}
-use native.Mathlib.Nat.{mul-add, zero-add, add-comm}
+use native.Mathlib.Nat.{mul-add, add-comm}
 use native.Mathlib.Decide.{decLt}
 use native.Mathlib.Omega.{arith}
 use lib.ListN.{length}
@@ -10,12 +10,12 @@ use Rattle.lists.specs.Bytes.{less, byteAt}
 use Rattle.sector.specs.Byte.{shiftedOf}
 use Rattle.sector.specs.Fit.{shiftedList}
 use Rattle.sector.proofs.Bytes.{less-of}
-use Rattle.sector.proofs.Shifts.{shift-at}
+use Rattle.sector.proofs.Shifts.{shifted-at}
 use Rattle.quick.specs.Line.{lineAt, OnLine}
 
 pub byte-shifted : (o k : ℕ) (l : List ℕ) (i : ℕ) → i < length l → byteAt (shiftedList o k l) i ≡ less (less (byteAt l i) o) (i * k)
 unfolding shiftedOf
-byte-shifted o k l i h = shift-at o k l 0 i h ∙ ap (λ (j : ℕ). less (less (byteAt l i) o) (j * k)) (zero-add i)
+byte-shifted o k l i h = shifted-at o k l i h
 
 -- a place times the difference of two steps, and times the one
 apart-steps : (i s k : ℕ) → s < 256 → k < 256 → (i * less s k + i * k) % 256 ≡ (i * s) % 256

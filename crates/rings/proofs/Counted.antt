@@ -10,10 +10,9 @@ use lib.ListN.{length, replicate, length-replicate}
 use Rattle.lists.specs.Cases.{flag}
 use Rattle.lists.specs.Bytes.{less, byteAt}
 use Rattle.lists.proofs.Many.{many-none, many-more}
-use Rattle.lists.proofs.Plain.{less-byte}
 use Rattle.lists.proofs.Zeros.{zeros-at}
 use Rattle.sector.specs.Byte.{shiftedOf}
-use Rattle.sector.proofs.Bytes.{less-of}
+use Rattle.sector.proofs.Bytes.{less-once}
 use Rattle.rings.specs.Class.{classCount}
 use Rattle.rings.specs.Table.{talliedAt, tallied, notedIn, Noted}
 use Rattle.rings.proofs.Rooms.{room-all}
@@ -21,22 +20,13 @@ use Rattle.rings.proofs.Rooms.{room-all}
 -- ---- the count of a class
 
 module _ (l : List ℕ) (q r o k : ℕ) where
-  pub class-none : (v : ℕ) → classCount l q r o k 0 v ≡ 0
+  class-none : (v : ℕ) → classCount l q r o k 0 v ≡ 0
   unfolding classCount
   class-none v = many-none _
 
-  pub class-more : (n v : ℕ) → classCount l q r o k (n + 1) v ≡ classCount l q r o k n v + flag (eqb v (shiftedOf (byteAt l (q * n + r)) o n k))
+  class-more : (n v : ℕ) → classCount l q r o k (n + 1) v ≡ classCount l q r o k n v + flag (eqb v (shiftedOf (byteAt l (q * n + r)) o n k))
   unfolding classCount
   class-more n v = many-more _ n
-
--- ---- shifts of a whole block
-
--- what is taken off at once is what is taken off one after the other
-both-less : (b o p a : ℕ) → a ≡ (o + p) % 256 → less b a ≡ less (less b o) p
-both-less b o p a e = less-of (less b o) p (less b a) (less-byte b a) (once (less b a) (omega arith))
-  where
-    once : (x : ℕ) → (x + a) % 256 ≡ b % 256 → (x + p) % 256 ≡ less b o
-    once x q = omega arith
 
 -- ---- the table of the counts
 
@@ -66,7 +56,7 @@ module _ (l : List ℕ) (o k : ℕ) where
       shifted : (r : ℕ) → less (byteAt l (j * 16 + r)) s ≡ less (less (byteAt l (16 * j + r)) o) (j * k)
       shifted r =
           let place : j * 16 + r ≡ 16 * j + r = omega arith in
-          both-less (byteAt l (j * 16 + r)) o (j * k) s (c .off) ∙ ap (λ (i : ℕ). less (less (byteAt l i) o) (j * k)) place
+          less-once (byteAt l (j * 16 + r)) o (j * k) s (c .off) ∙ ap (λ (i : ℕ). less (less (byteAt l i) o) (j * k)) place
 
       at : (r v : ℕ) → r < 16 → v < 256 → byteAt t' (r * 256 + v) ≡ classCount l 16 r o k (j + 1) v % 256
       at r v hr hv =

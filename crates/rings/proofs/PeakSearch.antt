@@ -7,7 +7,7 @@ use lib.ListN.{length}
 use Rattle.lists.specs.Counts.{greatest}
 use Rattle.lists.proofs.Greatest.{greatest-none, greatest-more}
 use Rattle.rings.specs.Peak.{sumAt, peakAt, noPeaks, peaksOf}
-use Rattle.rings.specs.Quad.{orOf, topsOf}
+use Rattle.rings.specs.Quad.{greaterOf, topsOf}
 use Rattle.rings.specs.declared.quads.Quad.{Quad}
 use Rattle.rings.proofs.Quarters.{topAt, greatest-quarters}
 use Rattle.rings.proofs.Turns.{stepsOf, pairOf, tops-turned}
@@ -29,11 +29,11 @@ module _ (t : List ℕ) (s : ℕ) where
       → q ≡ pairOf t s 1 v
       → r ≡ pairOf t s 2 v
       → u ≡ pairOf t s 3 v
-      → orOf best (topsOf p q r u) ≡ peaksTo (v + 1)
+      → greaterOf best (topsOf p q r u) ≡ peaksTo (v + 1)
   unfolding peaksTo
   peaks-more v h e p q r u =
-      (λ i. orOf (e i) (topsOf (p i) (q i) (r i) (u i)))
-      ∙ ap (orOf (peaksTo v)) (tops-turned t s v h)
+      (λ i. greaterOf (e i) (topsOf (p i) (q i) (r i) (u i)))
+      ∙ ap (greaterOf (peaksTo v)) (tops-turned t s v h)
       ∙ (λ i. stepsOf (λ q. sym (greatest-more (topAt (sumAt t s q) 64) v) i))
 
   pub peaks-room : length t ≡ 4096 → peaksOf t s ≡ stepsOf (peakAt t s)

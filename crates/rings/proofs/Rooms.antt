@@ -2,12 +2,10 @@
 use Prim.Native.Nat.{ℕ, _<_}
 use mathlib.Core.Path.{_≡_, sym, _∙_}
 use mathlib.Core.List.{List}
-use native.Mathlib.Omega.{arith}
 use lib.ListN.{length}
-use lib.Seq.{ext-getD}
 use Rattle.lists.specs.Bytes.{byteAt}
 use Rattle.lists.specs.Pieces.{each}
-use Rattle.lists.proofs.Each.{each-length, each-at}
+use Rattle.lists.proofs.Each.{each-all}
 use Rattle.lists.proofs.Picks.{pick-eq, pick-ne}
 use Rattle.rings.specs.Table.{ifRoom, talliedAt, tallied, doubledAt, doubled, foldedAt, folded}
 
@@ -20,8 +18,7 @@ module _ (out : List ℕ) (f : ℕ → ℕ) where
 
   pub room-all : (t : List ℕ) → length out ≡ 4096 → length t ≡ 4096 → ((i : ℕ) → i < 4096 → byteAt t i ≡ f i) → t ≡ ifRoom out f
   room-all t e size at =
-      ext-getD 0 t (each f 4096) (size ∙ sym (each-length f 4096)) (λ i h. let q : i < 4096 = omega arith in at i q ∙ sym (each-at f 4096 i 0 q))
-      ∙ room-is e
+      each-all f 4096 t size at ∙ room-is e
 
 -- the tables, where they have it
 module _ (out : List ℕ) (e : length out ≡ 4096) where

@@ -6,7 +6,7 @@ ghost use lib.ListN.{length};
 ghost use Rattle.lists.specs.Bytes.{byteAt};
 ghost use Rattle.rings.specs.Class.{cap};
 ghost use Rattle.rings.specs.Peak.{ringAt, noPeaks, peaksOf};
-ghost use Rattle.rings.specs.Quad.{fourOf, plusOf, orOf, turnedOf, oppositeOf, topOf, topsOf};
+ghost use Rattle.rings.specs.Quad.{fourOf, plusOf, greaterOf, turnedOf, oppositeOf, topOf, topsOf};
 use crate::sums::larger;
 use crate::sums::sum_to_255;
 use numbers::wide;
@@ -19,46 +19,46 @@ pub struct Quad {
     pub d: u8,
 }
 
-// The greatest sums of eight rings that stand twice, under four steps from `step` on. A table of another length than 4,096 gives zeros.
-pub fn peaks(t: &[u8], step: u8) -> Quad
-    ensures { λ r. ⌜ r ≡ peaksOf (now (t .entry)) step ⌝ }
+// The greatest sums of eight rings that stand twice, under `step` and the steps 64, 128 and 192 further. A table of another length than 4,096 gives zeros.
+pub fn peaks(eight: &[u8], step: u8) -> Quad
+    ensures { λ r. ⌜ r ≡ peaksOf (now (eight .entry)) step ⌝ }
 {
-    if t.len() != 4096 {
+    if eight.len() != 4096 {
         return Quad::zeros();
     }
     let s = wide(step);
     let mut best = Quad::zeros();
     let mut v: usize = 0;
     while v < 64 {
-        let p = pair_at(t, s, 0, v);
-        let q = pair_at(t, s, 1, v);
-        let r = pair_at(t, s, 2, v);
-        let u = pair_at(t, s, 3, v);
-        best = best.or(tops(p, q, r, u));
+        let p = pair_at(eight, s, 0, v);
+        let q = pair_at(eight, s, 1, v);
+        let r = pair_at(eight, s, 2, v);
+        let u = pair_at(eight, s, 3, v);
+        best = best.greater(tops(p, q, r, u));
         v += 1;
     }
     best
 }
 
 // Rings r and r + 4 together, at v and at the three values a quarter apart.
-fn pair_at(t: &[u8], s: usize, r: usize, v: usize) -> Quad
-    requires { ⌜ (length (now t) ≡ 4096) × (s < 256) × (r < 4) × (v < 64) ⌝ }
-    ensures { λ q. ⌜ q ≡ fourOf (λ y. cap (ringAt (now (t .entry)) s r (v + y) + ringAt (now (t .entry)) s (r + 4) (v + y))) ⌝ }
+fn pair_at(eight: &[u8], s: usize, r: usize, v: usize) -> Quad
+    requires { ⌜ (length (now eight) ≡ 4096) × (s < 256) × (r < 4) × (v < 64) ⌝ }
+    ensures { λ q. ⌜ q ≡ fourOf (λ y. cap (ringAt (now (eight .entry)) s r (v + y) + ringAt (now (eight .entry)) s (r + 4) (v + y))) ⌝ }
 {
-    let near = four_at(t, r * 512 + r * s % 256 + v);
-    let far = four_at(t, (r + 4) * 512 + (r + 4) * s % 256 + v);
+    let near = four_at(eight, r * 512 + r * s % 256 + v);
+    let far = four_at(eight, (r + 4) * 512 + (r + 4) * s % 256 + v);
     near.plus(far)
 }
 
-fn four_at(t: &[u8], at: usize) -> Quad
-    requires { ⌜ at + 192 < length (now t) ⌝ }
-    ensures { λ q. ⌜ q ≡ fourOf (λ y. byteAt (now (t .entry)) (at + y)) ⌝ }
+fn four_at(eight: &[u8], at: usize) -> Quad
+    requires { ⌜ at + 192 < length (now eight) ⌝ }
+    ensures { λ q. ⌜ q ≡ fourOf (λ y. byteAt (now (eight .entry)) (at + y)) ⌝ }
 {
     Quad {
-        a: t[at],
-        b: t[at + 64],
-        c: t[at + 128],
-        d: t[at + 192],
+        a: eight[at],
+        b: eight[at + 64],
+        c: eight[at + 128],
+        d: eight[at + 192],
     }
 }
 
@@ -101,8 +101,9 @@ impl Quad {
         }
     }
 
-    fn or(self, q: Self) -> Self
-        ensures { λ r. ⌜ r ≡ orOf self q ⌝ }
+    // The greater of two, each time.
+    fn greater(self, q: Self) -> Self
+        ensures { λ r. ⌜ r ≡ greaterOf self q ⌝ }
     {
         Quad {
             a: larger(self.a, q.a),

@@ -1,7 +1,7 @@
 -- Laws of shifted bytes. Assumes nothing.
 use Prim.Native.Nat.{ℕ, _+_, _*_, _/_, _%_, _<_, _≤_}
-use mathlib.Core.Path.{_≡_, sym, ap, _∙_}
-use native.Mathlib.Nat.{mul-le-mul, add-mul, mul-assoc, mul-add-mod-self-left, div-add-mod}
+use mathlib.Core.Path.{_≡_, refl, sym, ap, _∙_}
+use native.Mathlib.Nat.{mul-le-mul, add-mul, mul-assoc, mul-add-mod-self-left, div-add-mod, mod-mod}
 use native.Mathlib.Omega.{arith}
 use Rattle.lists.specs.Bytes.{less}
 use Rattle.lists.proofs.Plain.{less-byte}
@@ -28,6 +28,16 @@ less-of a b r hr e = omega arith
 -- only remainders count
 pub less-mod : (a b a' b' : ℕ) → a % 256 ≡ a' % 256 → b % 256 ≡ b' % 256 → less a b ≡ less a' b'
 less-mod a b a' b' p q = omega arith
+
+-- what is taken off at once is what is taken off one after the other
+pub less-once : (b o p a : ℕ) → a ≡ (o + p) % 256 → less b a ≡ less (less b o) p
+less-once b o p a e = less-of (less b o) p (less b a) (less-byte b a) (once (less b a) (omega arith))
+  where
+    once : (x : ℕ) → (x + a) % 256 ≡ b % 256 → (x + p) % 256 ≡ less b o
+    once x q = omega arith
+
+pub less-sum : (b o p : ℕ) → less b (o + p) ≡ less (less b o) p
+less-sum b o p = less-mod b (o + p) b ((o + p) % 256) refl (sym (mod-mod (o + p) 256)) ∙ less-once b o p ((o + p) % 256) refl
 
 pub shifted-byte : (b o i k : ℕ) → shiftedOf b o i k < 256
 unfolding shiftedOf

@@ -29,6 +29,9 @@ module _ (o k : ℕ) where
   shift-at (x ∷ l) j zero h = ap (λ (n : ℕ). shiftedOf x o n k) (sym (add-zero j))
   shift-at (x ∷ l) j (suc i) h = shift-at l (suc j) i (le-of-suc-le-suc h) ∙ ap (λ (n : ℕ). shiftedOf (getD l i 0) o n k) (suc-add j i ∙ sym (add-suc j i))
 
+  pub shifted-at : (l : List ℕ) (i : ℕ) → i < length l → getD (shiftedList o k l) i 0 ≡ shiftedOf (getD l i 0) o i k
+  shifted-at l i h = shift-at l 0 i h ∙ ap (λ (n : ℕ). shiftedOf (getD l i 0) o n k) (zero-add i)
+
   -- one byte more, and all
   pub shift-more : (l : List ℕ) (i : ℕ) → i < length l → shiftedList o k (take (i + 1) l) ≡ shiftedList o k (take i l) ++ (shiftedOf (getD l i 0) o i k ∷ [])
   unfolding shiftFrom
@@ -49,4 +52,4 @@ module _ (o : ℕ) (l : List ℕ) where
 
   pub sector-at : (i : ℕ) → i < length l → getD (sectorOf o l) i 0 ≡ shiftedOf (getD l i 0) o i (fitOf o l .step)
   unfolding sectorOf
-  sector-at i h = shift-at o (fitOf o l .step) l 0 i h ∙ ap (λ (n : ℕ). shiftedOf (getD l i 0) o n (fitOf o l .step)) (zero-add i)
+  sector-at i h = shifted-at o (fitOf o l .step) l i h

@@ -26,7 +26,7 @@ sectorFit offset bytes n = ifScanned (length bytes) n (fitOf offset bytes) blank
 unfoldable pub sectorOut : ℕ → List ℕ → List ℕ → List ℕ
 sectorOut offset bytes out = ifScanned (length bytes) (length out) (sectorOf offset bytes) out
 
--- for one step: the modal count, and the shifted bytes
+-- for one step: the modal count, or 0; and the shifted bytes, or the buffer as it was
 unfoldable pub sectorModal : ℕ → List ℕ → ℕ → ℕ → ℕ
 sectorModal offset bytes step n = ifScanned (length bytes) n (modalAt offset bytes step) 0
 

@@ -28,6 +28,39 @@ pub fn scan_sector(stored: &[u8], offset: u8, out: &mut [u8]) -> Fit
     fit
 }
 
+// The modal count of one step; its shifted bytes go into `room`. 0 where a scan would give a blank, and `room` stays. Counted first and compared after: the
+// two loops are faster than one that keeps the greatest count.
+pub fn modal_count(stored: &[u8], offset: u8, step: u8, room: &mut [u8]) -> u16
+    ensures { λ r. ⌜ r ≡ sectorModal offset (now (stored .entry)) step (length (now (room .entry))) ⌝ }
+    ensures { λ r. ⌜ now (room .exit) ≡ sectorShifted offset (now (stored .entry)) step (now (room .entry)) ⌝ }
+{
+    if stored.len() > 512 {
+        return 0;
+    }
+    if room.len() != stored.len() {
+        return 0;
+    }
+    write_shifted(stored, offset, step, room);
+    largest(histogram(room))
+}
+
+// The shifted bytes under a step. Where a scan would give a blank, `out` stays.
+pub fn write_shifted(stored: &[u8], offset: u8, step: u8, out: &mut [u8])
+    ensures { λ r. ⌜ now (out .exit) ≡ sectorShifted offset (now (stored .entry)) step (now (out .entry)) ⌝ }
+{
+    if stored.len() > 512 {
+        return;
+    }
+    if out.len() != stored.len() {
+        return;
+    }
+    let mut i: usize = 0;
+    while i < out.len() {
+        out[i] = shifted(stored[i], offset, i, step);
+        i += 1;
+    }
+}
+
 fn fit_of(stored: &[u8], offset: u8, room: &mut [u8]) -> Fit
     requires { ⌜ (length (now stored) ≤ 512) × (length (now room) ≡ length (now stored)) ⌝ }
     ensures { λ r. ⌜ r ≡ fitOf offset (now (stored .entry)) ⌝ }
@@ -48,22 +81,6 @@ fn modal_counts(stored: &[u8], offset: u8, room: &mut [u8]) -> [u16; 256]
         step += 1;
     }
     counts
-}
-
-// The modal count of one step; its shifted bytes go into `room`. 0 where a scan would give a blank, and `room` stays. Counted first and compared after: the
-// two loops are faster than one that keeps the greatest count.
-pub fn modal_count(stored: &[u8], offset: u8, step: u8, room: &mut [u8]) -> u16
-    ensures { λ r. ⌜ r ≡ sectorModal offset (now (stored .entry)) step (length (now (room .entry))) ⌝ }
-    ensures { λ r. ⌜ now (room .exit) ≡ sectorShifted offset (now (stored .entry)) step (now (room .entry)) ⌝ }
-{
-    if stored.len() > 512 {
-        return 0;
-    }
-    if room.len() != stored.len() {
-        return 0;
-    }
-    write_shifted(stored, offset, step, room);
-    largest(histogram(room))
 }
 
 fn histogram(bytes: &[u8]) -> [u16; 256]
@@ -92,21 +109,4 @@ fn largest(hist: [u16; 256]) -> u16
         v += 1;
     }
     most
-}
-
-// The shifted bytes under a step. Where a scan would give a blank `out` stays.
-pub fn write_shifted(stored: &[u8], offset: u8, step: u8, out: &mut [u8])
-    ensures { λ r. ⌜ now (out .exit) ≡ sectorShifted offset (now (stored .entry)) step (now (out .entry)) ⌝ }
-{
-    if stored.len() > 512 {
-        return;
-    }
-    if out.len() != stored.len() {
-        return;
-    }
-    let mut i: usize = 0;
-    while i < out.len() {
-        out[i] = shifted(stored[i], offset, i, step);
-        i += 1;
-    }
 }

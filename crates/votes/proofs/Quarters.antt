@@ -6,12 +6,12 @@ use native.Mathlib.Decide.{ℕ-discrete}
 use native.Mathlib.Numerals.{add-one}
 use native.Mathlib.Omega.{arith}
 use lib.ListN.{length, getD, set, take, drop, replicate, length-take, length-drop, length-set}
-use lib.Seq.{take-suc, take-all, getD-drop, drop-drop, getD-set-same, getD-set-other, ext-getD}
+use lib.Seq.{take-suc, take-all, getD-drop, drop-drop, getD-set-same, getD-set-other}
 use Rattle.lists.specs.Bytes.{byteAt}
 use Rattle.lists.specs.Counts.{count, Tallies}
 use Rattle.lists.specs.Pieces.{each}
 use Rattle.lists.proofs.Count.{count-halves, tallies-none, tallies-more, tallies-le}
-use Rattle.lists.proofs.Each.{each-length, each-at, each-ext}
+use Rattle.lists.proofs.Each.{each-ext, each-all}
 use Rattle.votes.specs.Votes.{countsOf}
 use Rattle.votes.specs.CountTables.{Tallied, Quarters, AtMost, sumsOf}
 
@@ -63,9 +63,7 @@ module _ (f : ℕ → ℕ) where
       go v k (no ne) = getD-set-other out n v (f n) 0 ne ∙ l .at v (omega arith)
 
   pub filled-all : (n : ℕ) (out : List ℕ) → n ≡ 256 → Filled f n out → out ≡ each f 256
-  filled-all n out e l =
-      ext-getD 0 out (each f 256) (l .long ∙ sym (each-length f 256))
-      (λ v h. l .at v (omega (arith, l .long)) ∙ sym (each-at f 256 v 0 (omega (arith, l .long))))
+  filled-all n out e l = each-all f 256 out (l .long) (λ v h. l .at v (omega arith))
 
 -- a value's count is the sum of its counts in the parts
 module _ (v : ℕ) where

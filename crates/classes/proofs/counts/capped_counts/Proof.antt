@@ -1,17 +1,15 @@
 -- `capped_counts` meets its contract: after m countings the table has the counts of all steps that are below m modulo 16.
-use Prim.Native.Nat.{ℕ, _+_, _-_, _*_, _/_, _%_, _≤_}
-use mathlib.Core.Path.{_≡_, refl, sym, ap, _∙_}
-use mathlib.Core.List.{List}
+use Prim.Native.Nat.{_-_, _≤_}
+use mathlib.Core.Path.{_≡_, refl, ap, _∙_}
 use native.Mathlib.Omega.{arith}
 use borrow.Author.Needs.{needs}
 use denote.Ref.{now}
 use lib.ListN.{length}
 use Rattle.lists.proofs.Each.{each-length}
-use Rattle.sector.specs.Fit.{modalAt}
-use Rattle.rings.specs.Class.{cap}
 use Rattle.rings.proofs.Rooms.{tallied-room, doubled-room}
+use Rattle.classes.specs.Engine.{engineAt}
 use Rattle.classes.proofs.Steps.{Known, known-none, known-more, known-all}
-use Rattle.classes.proofs.Tables.{folded-peak}
+use Rattle.classes.proofs.Engine.{engine-from}
 use Rattle.classes.proofs.counts.capped_counts.Statement.{statement}
 use Rattle.classes.proofs.counts.capped_counts.Tie as tie
 
@@ -21,7 +19,7 @@ Inv-loop stored offset sixteen₀ twice₀ eight₀ counts₀ m₀ sixteen twice
     × (length sixteen ≡ 4096)
     × (length twice ≡ 4096)
     × (length eight ≡ 4096)
-    × Known (λ k. cap (modalAt offset stored k)) m counts
+    × Known (engineAt offset stored) m counts
 
 abbrev μ-loop : tie.MeasureT-loop
 μ-loop stored offset sixteen₀ twice₀ eight₀ counts₀ m₀ sixteen twice eight counts m = 16 - m
@@ -48,23 +46,16 @@ loop-again c =
     let doubling = first .before .before .before .before .before .before in
     let tallying = doubling .before .before .before .before in
     let l = tallying .before .before .before .loop in
-    let start = tallying .before .before .before .before .before .before .before .before in
-    let a = start .args in
-    let sizes = start .pre in
-    let bytes : List ℕ = now (a .stored) in
-    let n : ℕ = length bytes / 16 in
-    let size : 16 * n ≡ length bytes = omega (arith, sizes .whole) in
-    let short : n ≤ 32 = omega (arith, sizes .short) in
-    let sixteen = tallying .tally .ensures ∙ tallied-room _ (l .inv .1) bytes (a .offset) _ in
+    let a = tallying .before .before .before .before .before .before .before .before .args in
+    let sixteen = tallying .tally .ensures ∙ tallied-room _ (l .inv .1) (now (a .stored)) (a .offset) _ in
     let twice = doubling .double .ensures ∙ doubled-room _ (l .inv .2) _ in (
       omega arith,
       ap length sixteen ∙ each-length _ 4096,
       ap length twice ∙ each-length _ 4096,
       second .count-eight2 .ensures .0,
       known-more _ _ _ (l .m) _ _ _ (search needs) (l .inv .4) (first .count-eight .ensures .1)
-          (λ k h e. folded-peak bytes (a .offset) n size short _ _ _ (l .m) (omega arith) sixteen twice _ (omega arith) k (omega arith))
-          (second .count-eight2 .ensures .1)
-          (λ k h e. folded-peak bytes (a .offset) n size short _ _ _ (l .m + 16) (omega arith) sixteen twice _ (omega arith) k (omega arith)),
+          (λ k h e. engine-from (a .offset) (now (a .stored)) k _ _ _ _ sixteen twice (omega arith) (omega arith)) (second .count-eight2 .ensures .1)
+          (λ k h e. engine-from (a .offset) (now (a .stored)) k _ _ _ _ sixteen twice (omega arith) (omega arith)),
     )
 
 returns : tie.Need-returns Inv-loop μ-loop

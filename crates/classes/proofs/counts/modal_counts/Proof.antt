@@ -4,11 +4,11 @@ use mathlib.Core.Path.{_≡_, refl, sym, ap, _∙_}
 use mathlib.Core.List.{List}
 use native.Mathlib.Omega.{arith}
 use borrow.Author.Needs.{needs}
-use denote.Ref.{now}
 use lib.ListN.{length, getD}
 use Rattle.lists.proofs.Each.{each-at}
 use Rattle.lists.proofs.Filled.{Filled, filled-none, filled-more, filled-all}
 use Rattle.sector.specs.Fit.{modalAt}
+use Rattle.classes.proofs.Meaning.{table-modal}
 use Rattle.classes.proofs.counts.modal_counts.Statement.{statement}
 use Rattle.classes.proofs.counts.modal_counts.Tie as tie
 
@@ -27,7 +27,7 @@ recount-requires c κs =
     let d = c .before .before .before in
     let p = d .before .before .before .pre in
     let l = c .before .before .loop in
-    (p .0 .short, l .inv .0, ap (λ (t : List ℕ). getD t (l .step) 0) (d .capped-counts .ensures) ∙ each-at _ 256 (l .step) 0 (search needs))
+    (p .0 .short, l .inv .0, ap (λ (t : List ℕ). getD t (l .step) 0) (d .capped-counts .ensures) ∙ each-at _ 256 (l .step) 0 (search needs) ∙ table-modal _ _ (p .0) (l .step))
 
 loop-again : tie.Need-loop-again Inv-loop μ-loop
 loop-again c =
@@ -47,7 +47,7 @@ modal-counts-spec =
     (tie.spec
     Inv-loop
     μ-loop
-    (λ c κs. c .before .before .pre .0)
+    (λ c κs. search needs)
     loop-holds
     (λ c. search needs)
     (λ c. search needs)

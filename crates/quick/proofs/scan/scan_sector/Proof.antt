@@ -1,4 +1,4 @@
--- `scan_sector` meets its contract: where no byte breaks the line its fit and its bytes are known, and else the full scan has the same contract.
+-- `scan_sector` meets its contract: where no byte breaks the line its fit and its bytes are known, and else the count by classes has the same contract.
 use Prim.Native.Nat.{ℕ, _≤_}
 use mathlib.Core.Path.{_≡_, sym, ap, ap₂, _∙_}
 use native.Mathlib.Omega.{arith}

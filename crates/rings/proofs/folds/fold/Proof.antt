@@ -36,7 +36,7 @@ returns-2 c =
     let l = c .before .loop in
     let a = c .before .before .before .before .before .args in
     rings-all _ (now (a .out)) (l .r) (l .out) (omega arith) (omega arith) (l .inv .1)
-    ∙ ap (λ (x : ℕ). folded (now (a .t)) (now (a .twice)) x (now (a .out))) (c .before .before .wide .ensures .0)
+    ∙ ap (λ (x : ℕ). folded (now (a .sixteen)) (now (a .twice)) x (now (a .out))) (c .before .before .wide .ensures .0)
 
 pub fold-spec : {M : Type 1} → statement M
 fold-spec =

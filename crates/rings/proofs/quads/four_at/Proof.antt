@@ -11,7 +11,7 @@ use Rattle.rings.proofs.quads.four_at.Tie as tie
 returns : tie.Need-returns
 returns c =
     let a = c .before .before .before .before .args in
-    let byte : ℕ → ℕ = byteAt (now (a .t)) in
+    let byte : ℕ → ℕ = byteAt (now (a .eight)) in
     λ i. record { a = byte (sym (add-zero (a .at)) i); b = byte (a .at + 64); c = byte (a .at + 128); d = byte (a .at + 192) }
 
 pub four-at-spec : {M : Type 1} → statement M

@@ -25,8 +25,8 @@ returns c =
     let a = c .before .before .before .before .args in
     c .plus .ensures
     ∙ ap₂ plusOf
-    (c .before .before .four-at .ensures ∙ ring-four (now (a .t)) (a .s) (a .r) (a .v))
-    (c .before .four-at2 .ensures ∙ ring-four (now (a .t)) (a .s) (a .r + 4) (a .v))
+    (c .before .before .four-at .ensures ∙ ring-four (now (a .eight)) (a .s) (a .r) (a .v))
+    (c .before .four-at2 .ensures ∙ ring-four (now (a .eight)) (a .s) (a .r + 4) (a .v))
 
 pub pair-at-spec : {M : Type 1} → statement M
 pair-at-spec =

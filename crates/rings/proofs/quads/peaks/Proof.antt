@@ -5,7 +5,7 @@ use mathlib.Core.Path.{_≡_, ap, _∙_}
 use native.Mathlib.Omega.{arith}
 use denote.Ref.{now}
 use Rattle.rings.specs.Peak.{peaksOf}
-use Rattle.rings.specs.Quad.{orOf}
+use Rattle.rings.specs.Quad.{greaterOf}
 use Rattle.rings.proofs.PeakSearch.{peaksTo, peaks-none, peaks-more, peaks-done, peaks-other}
 use Rattle.rings.proofs.quads.peaks.Statement.{statement}
 use Rattle.rings.proofs.quads.peaks.Tie as tie
@@ -30,8 +30,8 @@ loop-again c =
     let first = second .before in
     let l = first .before .before .loop in (
       search needs,
-      c .or .ensures
-          ∙ ap (orOf (l .best)) (c .before .tops .ensures)
+      c .greater .ensures
+          ∙ ap (greaterOf (l .best)) (c .before .tops .ensures)
           ∙ peaks-more _ _ (l .v) (search needs) (l .inv .1)
           (first .pair-at .ensures)
           (second .pair-at2 .ensures)
@@ -43,7 +43,7 @@ returns-2 : tie.Need-returns-2 Inv-loop μ-loop
 returns-2 c =
     let l = c .before .loop in
     let w = c .before .before .before .wide in
-    let t = now (c .before .before .before .before .before .before .args .t) in
+    let t = now (c .before .before .before .before .before .before .args .eight) in
     l .inv .1 ∙ ap (peaksTo t (w .result)) (omega arith) ∙ peaks-done t (w .result) (search needs) ∙ ap (peaksOf t) (w .ensures .0)
 
 pub peaks-spec : {M : Type 1} → statement M

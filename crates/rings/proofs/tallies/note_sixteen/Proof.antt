@@ -24,7 +24,7 @@ loop-again c =
     let x = c .before .before .wide in
     let d = c .before .before .before .wrapping-sub-u8 in (
       omega arith,
-      note-more _ _ _ _ (l .r) (l .t) (x .result) _ (l .inv .1) (omega arith) (x .ensures .1)
+      note-more _ _ _ _ (l .r) (l .out) (x .result) _ (l .inv .1) (omega arith) (x .ensures .1)
           (x .ensures .0 ∙ less-of _ _ (d .result) (search needs) (d .ensures))
           (c .wrapping-add-u8 .ensures),
     )

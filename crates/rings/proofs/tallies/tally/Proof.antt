@@ -23,7 +23,7 @@ returns c = room-other _ _ (c .if1 .taken)
 loop-holds : tie.Need-loop-holds Inv-loop μ-loop
 loop-holds c =
     let d = c .before .before in
-    let n = length (now (d .before .before .before .before .before .args .t)) in
+    let n = length (now (d .before .before .before .before .before .args .out)) in
     (search needs, counted-none _ _ _ n _ (search needs) (d .fill .ensures) (omega arith))
 
 loop-again : tie.Need-loop-again Inv-loop μ-loop

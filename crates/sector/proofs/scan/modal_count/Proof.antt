@@ -8,7 +8,7 @@ use denote.Ref.{now}
 use lib.ListN.{length}
 use Rattle.lists.specs.Counts.{count}
 use Rattle.lists.proofs.Greatest.{greatest-ext}
-use Rattle.sector.specs.Fit.{shiftedList, modalOf, modalAt}
+use Rattle.sector.specs.Fit.{modalOf, modalAt}
 use Rattle.sector.proofs.Shifts.{shift-length}
 use Rattle.sector.proofs.Scans.{modal-long, shifted-long, modal-other, shifted-other, modal-scanned, shifted-scanned}
 use Rattle.sector.proofs.scan.modal_count.Statement.{statement}

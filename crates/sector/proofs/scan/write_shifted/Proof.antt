@@ -1,6 +1,6 @@
 -- `write_shifted` meets its contract: what was written are the shifted bytes of what was read.
 use borrow.Author.Needs.{needs}
-use Prim.Native.Nat.{ℕ, _+_, _-_, _≤_, _<_}
+use Prim.Native.Nat.{ℕ, _-_, _≤_, _<_}
 use mathlib.Core.Path.{_≡_, refl, sym, ap, _∙_}
 use mathlib.Core.List.{List, _∷_, [], _++_}
 use native.Mathlib.Numerals.{add-one}
