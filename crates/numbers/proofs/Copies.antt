@@ -1,13 +1,13 @@
--- Laws of bytes that are copied one after the other over all of a buffer, and of zeros. Assumes nothing.
+-- Laws of bytes that are copied one after the other over all of a buffer, and of zeros in a part of one. Assumes nothing.
 use Prim.Native.Nat.{ℕ, _+_, _≤_, _<_}
-use mathlib.Core.Path.{_≡_, sym, ap, _∙_}
+use mathlib.Core.Path.{_≡_, sym, ap₂, _∙_}
 use mathlib.Core.List.{List, _++_}
 use borrow.Author.Tests.{eq-eqb, ne-eqb}
 use native.Mathlib.Omega.{arith}
-use lib.ListN.{length, take, drop, getD, set, replicate, length-drop, length-replicate, getD-replicate}
+use lib.ListN.{length, take, drop, getD, set, replicate, length-drop, length-replicate}
 use lib.Seq.{take-all, length-take-le}
 use Rattle.lists.specs.Pieces.{over}
-use Rattle.lists.proofs.Filled.{write-more, take-more, fill-none, fill-more, fill-all}
+use Rattle.lists.proofs.Filled.{write-more, take-more}
 use Rattle.numbers.specs.Writes.{copied, Wrote}
 use Rattle.numbers.proofs.Stored.{wrote-not, wrote-over}
 
@@ -41,7 +41,7 @@ module _ (ys l : List ℕ) where
       let n : length (take m (drop a l)) ≡ length ys = length-take-le m (drop a l) (omega (arith, length-drop a l)) ∙ e in
       rw (eq-eqb (length ys) (length (take m (drop a l))) (sym n), f)
 
--- zeros at a place, one after the other
+-- zeros at a place
 module _ (l : List ℕ) (a n : ℕ) where
   abbrev zeros : List ℕ
   zeros = replicate n 0
@@ -52,15 +52,17 @@ module _ (l : List ℕ) (a n : ℕ) where
   pub zeros-short : length l < a + n → Wrote l a zeros l a
   zeros-short h = wrote-not (omega (arith, many))
 
-  pub zeros-none : l ≡ over l a (take 0 zeros)
-  zeros-none = fill-none l zeros a
+  -- a part that was lent, and filled
+  pub zeros-part :
+      (k m : ℕ)
+      → a + n ≤ length l
+      → m ≡ n
+      → k ≡ n
+      → take a l ++ (replicate (length (take m (drop a l))) 0 ++ drop k (drop a l)) ≡ over l a zeros
+  unfolding over
+  zeros-part k m h e f =
+      let size : length (take m (drop a l)) ≡ n = length-take-le m (drop a l) (omega (arith, length-drop a l)) ∙ e in
+      ap₂ (λ (x y : ℕ). take a l ++ (replicate x 0 ++ drop y (drop a l))) size (f ∙ sym many)
 
-  module _ (out : List ℕ) (i : ℕ) (e : out ≡ over l a (take i zeros)) (k : a + n ≤ length l) where
-    pub zeros-more : i < n → set out (a + i) 0 ≡ over l a (take (i + 1) zeros)
-    zeros-more h =
-        ap (λ (o : List ℕ). set o (a + i) 0) e
-        ∙ ap (set (over l a (take i zeros)) (a + i)) (sym (getD-replicate {A = ℕ} n i 0 0 h))
-        ∙ fill-more l zeros a 0 i (omega arith) (omega (arith, many))
-
-    pub zeros-all : n ≤ i → Wrote l a zeros out (a + n)
-    zeros-all h = wrote-over (omega (arith, many)) (e ∙ fill-all l zeros a i (omega (arith, many))) (omega (arith, many))
+  pub zeros-all : {after : List ℕ} {next : ℕ} → a + n ≤ length l → after ≡ over l a zeros → next ≡ a + n → Wrote l a zeros after next
+  zeros-all h e place = wrote-over (omega (arith, many)) e (omega (arith, many))

@@ -52,10 +52,7 @@ pub fn put_zeros(out: &mut [u8], at: usize, n: usize) -> usize
     if out.len() - n < at {
         return at;
     }
-    let mut i: usize = 0;
-    while i < n {
-        out[at + i] = 0;
-        i += 1;
-    }
-    at + n
+    let end = at + n;
+    fill(&mut out[at..end], 0);
+    end
 }
