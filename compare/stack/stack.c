@@ -47,7 +47,7 @@ static const Function functions[FUNCTIONS] = {
     {"integrity", 0, LUMEVIQO_INTEGRITY_LENGTH, (Entry)lumeviqo_integrity, {NUMBER, PAGE, ANSWER}},
     {"superblock", 0, LUMEVIQO_SUPERBLOCK_LENGTH, (Entry)lumeviqo_superblock, {PAGE, ANSWER}},
     {"superblock_checked", 0, LUMEVIQO_SUPERBLOCK_LENGTH, (Entry)lumeviqo_superblock_checked, {PAGE, ANSWER}},
-    {"scan", 0, LUMEVIQO_SCAN_LENGTH, (Entry)lumeviqo_scan, {NUMBER, PAGE, SHIFTED, ANSWER}},
+    {"scan", 16384, LUMEVIQO_SCAN_LENGTH, (Entry)lumeviqo_scan, {NUMBER, PAGE, SHIFTED, ANSWER}},
     {"replace", 0, LUMEVIQO_REPLACEMENT_LENGTH, (Entry)lumeviqo_replace, {NUMBER, PAGE, SHIFTED, FITS, SECTOR_NUMBER, BYTES, ANSWER}},
     {"decode", 0, LUMEVIQO_DECODING_LENGTH, (Entry)lumeviqo_decode, {NUMBER, PAGE, ANCHORS, LENIENCY, T, SEARCH_LIMIT, OUT, ANSWER}},
     {"decode_summary", 0, LUMEVIQO_DECODING_LENGTH, (Entry)lumeviqo_decode_summary,
@@ -489,6 +489,8 @@ typedef struct {
     const char *pages;
     uint8_t rows;         /* of a declared directory */
     uint8_t noise, clean; /* so many of eight bytes are random, from sector `clean` on */
+    bool half;            /* but none at an even place */
+    bool near;            /* the last data byte of each sector is off the line */
     bool own_bv;          /* each sector has another bv */
     uint16_t damaged;     /* a byte of the trailer, or 0 */
 
@@ -503,6 +505,10 @@ static const Stored stored[] = {
      .supplied = LUMEVIQO_KEYSTREAM_UNVERIFIED, .supplied_warnings = 1},
     {"mixed", .noise = 3, .strict = LUMEVIQO_KEYSTREAM_UNVERIFIED, .source = LUMEVIQO_SOURCE_HISTOGRAM, .warnings = 1,
      .supplied = LUMEVIQO_KEYSTREAM_UNVERIFIED, .supplied_warnings = 1},
+    {"near", .near = true, .strict = LUMEVIQO_KEYSTREAM_UNVERIFIED, .source = LUMEVIQO_SOURCE_HISTOGRAM, .warnings = 1,
+     .supplied = LUMEVIQO_KEYSTREAM_UNVERIFIED, .supplied_warnings = 1},
+    {"half", .noise = 8, .half = true, .strict = LUMEVIQO_KEYSTREAM_UNVERIFIED, .source = LUMEVIQO_SOURCE_HISTOGRAM, .warnings = 9,
+     .supplied = LUMEVIQO_KEYSTREAM_UNVERIFIED, .supplied_warnings = 9},
     {"dense", .noise = 8, .strict = LUMEVIQO_KEYSTREAM_UNVERIFIED, .source = LUMEVIQO_SOURCE_HISTOGRAM, .warnings = 9,
      .supplied = LUMEVIQO_KEYSTREAM_UNVERIFIED, .supplied_warnings = 9},
     {"dense, bad CRC", .noise = 8, .damaged = AT_CRC, .integrity = LUMEVIQO_BAD_CRC, .strict = LUMEVIQO_BAD_CRC,
@@ -514,6 +520,14 @@ static const Stored stored[] = {
     {"all zero", .exact = 8, .source = LUMEVIQO_SOURCE_UNALLOCATED},
 };
 enum { STORED = sizeof stored / sizeof stored[0] };
+
+/* What byte `at` of the page is off its sector's line by. */
+static uint8_t off_line(const Stored *kind, size_t at) {
+    if (kind->near)
+        return at % SECTOR == SECTOR - 1 || at == DATA - 1;
+    bool noisy = at / SECTOR >= kind->clean && !(kind->half && at % 2 == 0);
+    return noisy && below(8) < kind->noise ? (uint8_t)next() : 0;
+}
 
 /* A plain page, shifted by a random step in each sector, and with a good CRC unless that is what is damaged. */
 static void make_stored(const Stored *kind) {
@@ -527,10 +541,8 @@ static void make_stored(const Stored *kind) {
     put_run(page, kind->rows, (Run){0x44, 4, kind->rows, 0xFE0, 7}); /* under no step are slots equal that fall by an odd number */
     for (uint64_t s = 0; s < SECTORS; s++) {
         uint64_t shift = p + s - 4 * (p % 16 / 2) + call.number[BV] + (kind->own_bv ? s : 0), step = next();
-        for (size_t i = 0; i < SECTOR && SECTOR * s + i < DATA; i++) {
-            uint8_t random = s >= kind->clean && below(8) < kind->noise ? (uint8_t)next() : 0;
-            page[SECTOR * s + i] += (uint8_t)(random + shift + i * step);
-        }
+        for (size_t i = 0; i < SECTOR && SECTOR * s + i < DATA; i++)
+            page[SECTOR * s + i] += (uint8_t)(off_line(kind, SECTOR * s + i) + shift + i * step);
     }
     if (kind->damaged > 0)
         page[kind->damaged]++;

@@ -7,8 +7,8 @@ use compare::timing::Group;
 use lumeviqo::SHIFTED;
 use lumeviqo::header::{SCAN_LENGTH, VERSION};
 
-/// This library may take so much of the time before.
-const LIMIT: Option<f64> = Some(1.01);
+/// A scan must not be slower than before, whatever its page; a hundredth is the clock's.
+const LIMIT: f64 = 1.01;
 /// The calls go over so many buffers, since the time of the same code depends on where in memory a buffer lies.
 const BUFFERS: usize = 64;
 
@@ -44,11 +44,11 @@ impl Lent {
 }
 
 /// Whether both libraries write the same bytes for each page.
-pub fn check(stored: &[Pages], near: &Pages) -> Result<(), String> {
+pub fn check(kinds: &[&Pages]) -> Result<(), String> {
     if unsafe { before_lumeviqo_version() } as usize != VERSION {
         return Err("the library before is of another version than the header".to_string());
     }
-    let other = stored.iter().chain([near]).find(|pages| !(0..COUNT).all(|k| same(k, &pages.stored[k])));
+    let other = kinds.iter().find(|pages| !(0..COUNT).all(|k| same(k, &pages.stored[k])));
     other.map_or(Ok(()), |pages| Err(format!("{} pages: the library before writes another scan", pages.name)))
 }
 
@@ -60,21 +60,21 @@ fn same(number: usize, page: &[u8]) -> bool {
     now == before
 }
 
-/// A near page is held to the time before for an exact one: looking for exact sectors goes to their last byte there, and gains nothing.
-pub fn groups<'a>([exact, dense, mixed]: &'a [Pages; 3], near: &'a Pages) -> [Group<'a>; 3] {
-    let question = "scan of a page, of the library before";
-    let of_exact = "scan of a page, of the time of the library before for an exact page";
-    [(question, dense, dense), (question, mixed, mixed), (of_exact, near, exact)].map(|(question, pages, pages_before)| {
-        let mut g = Group::default();
-        let lent: Rc<RefCell<Vec<Lent>>> = Rc::new(RefCell::new((0..BUFFERS).map(|_| Lent::new()).collect()));
-        let [now, before] = [(NOW, pages), (BEFORE, pages_before)].map(|(scan, pages)| {
-            let (lent, mut calls) = (lent.clone(), 0);
-            super::each(&mut g, move |k| {
-                _ = lent.borrow_mut()[calls % BUFFERS].scan(scan, k, &pages.stored[k]);
-                calls += 1;
-            })
-        });
-        g.ratio(question, pages.name, now, before, LIMIT);
-        g
-    })
+/// Both libraries on each kind of pages, over the same buffers in turn.
+pub fn groups<'a>(kinds: &[&'a Pages]) -> Vec<Group<'a>> {
+    kinds.iter().map(|pages| beside(pages)).collect()
+}
+
+fn beside(pages: &Pages) -> Group<'_> {
+    let mut g = Group::default();
+    let lent: Rc<RefCell<Vec<Lent>>> = Rc::new(RefCell::new((0..BUFFERS).map(|_| Lent::new()).collect()));
+    let [now, before] = [NOW, BEFORE].map(|scan| {
+        let (lent, mut calls) = (lent.clone(), 0);
+        super::each(&mut g, move |k| {
+            _ = lent.borrow_mut()[calls % BUFFERS].scan(scan, k, &pages.stored[k]);
+            calls += 1;
+        })
+    });
+    g.ratio("scan of a page, of the library before", pages.name, now, before, Some(LIMIT));
+    g
 }

@@ -91,6 +91,11 @@ pub fn near() -> Pages {
     counted("near", |r, plan| (0..8).for_each(|s| plan.data[data_of(s).end - 1] = r.from_to(1, 255) as u8))
 }
 
+/// The bytes at even places of a sector lie on a line, the others are random: under the line's step, and the one 128 away, half of them agree.
+pub fn half() -> Pages {
+    counted("half", |r, plan| plan.data.iter_mut().skip(1).step_by(2).for_each(|byte| *byte = r.byte()))
+}
+
 /// Extent pages with a row count below 60.
 fn counted(name: &'static str, fill: impl Fn(&mut Random, &mut Plan)) -> Pages {
     Pages::new(name, |r, plan| {

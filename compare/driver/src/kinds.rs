@@ -63,6 +63,10 @@ type Maker = fn(&mut Random) -> Case;
 pub type Kind = (&'static str, usize, Maker);
 
 pub const MANY_CANDIDATES: &str = "many candidates";
+pub const PEAKS_ABOUT_255: &str = "peaks about 255";
+
+/// About the greatest that a byte holds, and that of a sector that is not exact: all but one.
+pub const PEAKS: [u16; 5] = [254, 255, 256, 257, 511];
 
 pub const KINDS: &[Kind] = &[
     ("two exact sectors or more", 6, calibrated),
@@ -72,6 +76,7 @@ pub const KINDS: &[Kind] = &[
     ("dense sectors", 3, dense),
     ("near the thresholds", 4, near),
     ("tied steps", 3, tied),
+    (PEAKS_ABOUT_255, 3, peaks),
     ("prelude", 7, prelude),
     ("truncated prelude", 4, truncated),
     ("several preludes", 4, several),
@@ -278,6 +283,16 @@ fn tied(r: &mut Random) -> Case {
         recrc(&mut case.page);
     }
     case
+}
+
+/// In each sector so many bytes agree under one step, or under two.
+fn peaks(r: &mut Random) -> Case {
+    let mut plan = Plan::new(r);
+    for s in 0..8 {
+        let count = r.of(&PEAKS) as usize;
+        fill(r, plan.sector(s), Fill::Zeros(count));
+    }
+    case_of(r, plan)
 }
 
 /// A prelude with its slots in sectors 0 and 1, its rows behind it; the row count.

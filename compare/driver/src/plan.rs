@@ -89,6 +89,8 @@ pub enum Fill {
     Near,
     /// Two steps or more reach the peak.
     Tied,
+    /// So many zeros, or all but one; every second place may get them before the others do.
+    Zeros(usize),
     Text,
 }
 
@@ -128,8 +130,31 @@ pub fn fill(r: &mut Random, part: &mut [u8], how: Fill) {
                 }
             }
         }
+        Fill::Zeros(count) => {
+            let (others, first, step) = (r.below(3), r.byte(), r.byte());
+            for (rank, i) in in_turn(r, n).into_iter().enumerate() {
+                part[i] = match others {
+                    _ if rank < count.min(n - 1) => 0,
+                    // Below 128, so that under the step 128 away it is none of them either.
+                    0 => r.from_to(1, 127) as u8,
+                    1 => first.wrapping_add((i as u8).wrapping_mul(step)),
+                    _ => r.byte(),
+                };
+            }
+        }
         Fill::Text => part.fill_with(|| if r.one_in(6) { b' ' } else { b'a' + r.below(26) as u8 }),
     }
+}
+
+/// The places of a sector from any on, most often the even ones or the odd ones first.
+fn in_turn(r: &mut Random, n: usize) -> Vec<usize> {
+    let mut places: Vec<usize> = (0..n).collect();
+    places.rotate_left(r.below(n));
+    if !r.one_in(3) {
+        let first = r.below(2);
+        places.sort_by_key(|i| (i + first) % 2);
+    }
+    places
 }
 
 /// Bytes i(i + 1)/2, in a sector of which all 256 steps tie.

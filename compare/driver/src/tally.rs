@@ -1,11 +1,11 @@
-//! How often each kind of input, question, answer, search limit, source, confidence, evidence, warning, number of candidates and number of tied
-//! steps was met.
+//! How often each kind of input, question, answer, search limit, source, confidence, evidence, warning, number of candidates, number of tied steps
+//! and peak about 255 was met.
 use std::collections::BTreeMap;
 use std::fmt;
 
 use oracle::plain::{Decoded, Fit, Parsed, Refusal, Warning};
 
-use crate::kinds::KINDS;
+use crate::kinds::{KINDS, PEAKS};
 use crate::limits::{Class, NAMED, OUTSIDE, USUAL};
 use crate::questions::Question;
 
@@ -13,6 +13,9 @@ type Counts<K> = BTreeMap<K, u64>;
 
 /// What comes of a page's candidates. KEYSTREAM accepts every choice.
 const CHOICES: [&str; 3] = ["accepted strictly", "refused strictly", "accepted leniently"];
+
+/// How many steps reach a peak, and which peaks must be met: 511 bytes agree under one step alone.
+const REACHED: [(&str, &[u16]); 2] = [("one step", &PEAKS), ("several steps", &[254, 255, 256, 257])];
 
 #[derive(Default)]
 pub struct Tally {
@@ -31,6 +34,8 @@ pub struct Tally {
     pub candidates: [Counts<u8>; CHOICES.len()],
     /// Of scanned sectors.
     pub tied: Counts<u16>,
+    /// Those of PEAKS, by REACHED.
+    pub peaks: [Counts<u16>; REACHED.len()],
 }
 
 impl Tally {
@@ -54,6 +59,9 @@ impl Tally {
     pub fn scanned(&mut self, fits: &[Fit; 8]) {
         for fit in fits {
             *self.tied.entry(fit.tied).or_default() += 1;
+            if PEAKS.contains(&fit.peak) {
+                *self.peaks[(fit.tied > 1) as usize].entry(fit.peak).or_default() += 1;
+            }
         }
     }
 
@@ -109,6 +117,7 @@ impl Tally {
         join(&mut self.reasons, other.reasons);
         self.candidates.iter_mut().zip(other.candidates).for_each(|(a, b)| join(a, b));
         join(&mut self.tied, other.tied);
+        self.peaks.iter_mut().zip(other.peaks).for_each(|(a, b)| join(a, b));
     }
 
     /// What a full run must reach and this one did not.
@@ -132,6 +141,9 @@ impl Tally {
         want("warning", &self.warnings, 3..=12);
         CHOICES.iter().zip(&self.candidates).for_each(|(choice, met)| want(&format!("candidates of pages {choice}:"), met, 7..=8));
         out.extend([1, 2, 256].iter().filter(|n| !self.tied.contains_key(n)).map(|n| format!("{n} tied steps")));
+        for ((reached, peaks), met) in REACHED.iter().zip(&self.peaks) {
+            out.extend(peaks.iter().filter(|n| !met.contains_key(n)).map(|n| format!("peak {n} of {reached}")));
+        }
         out
     }
 
@@ -208,6 +220,9 @@ impl fmt::Display for Tally {
         }
         for (choice, met) in CHOICES.iter().zip(&self.candidates) {
             writeln!(f, "candidates of pages {choice}\n  {}", list(met))?;
+        }
+        for ((reached, _), met) in REACHED.iter().zip(&self.peaks) {
+            writeln!(f, "peaks of {reached}\n  {}", list(met))?;
         }
         writeln!(f, "tied steps\n  {}", list(&self.tied))
     }

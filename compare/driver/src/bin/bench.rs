@@ -10,14 +10,14 @@ use std::hint::black_box;
 use std::path::{Path, PathBuf};
 use std::process::{Command, ExitCode};
 
-use compare::bench_pages::{BITS, COUNT, OPTIONS, Pages, falling, near, progressions, random, tables, zero};
+use compare::bench_pages::{BITS, COUNT, OPTIONS, Pages, falling, half, near, progressions, random, tables, zero};
 use compare::limits::{GREATEST, USUAL};
 use compare::shrink::{frame_head, hex};
 use compare::timing::{Group, table, time};
 use lumeviqo::{Fits, Leniency, Options, PAGE, SHIFTED};
 use oracle::{Reading, timed};
 
-/// The limits for a kind of page. A replacement is held to the original's scan.
+/// The limits for a kind of page, of the original's time. A replacement is held to its scan.
 #[derive(Clone, Copy)]
 struct Limits {
     scan: f64,
@@ -26,11 +26,15 @@ struct Limits {
     report: Option<f64>,
 }
 
-/// An exact sector is answered at once, any other by 256 histograms, as the original answers all.
+/// An exact sector is answered at once, any other by its residue classes; the original makes 256 histograms of each.
 const EXACT: Limits = Limits { scan: 0.002, replacement: Some(0.001), decoding: Some(0.012), report: Some(0.02) };
-const INEXACT: Limits = Limits { scan: 1.0, replacement: None, decoding: None, report: None };
-/// By pages: exact, dense, mixed, near.
-const LIMITS: [Limits; 4] = [EXACT, INEXACT, INEXACT, INEXACT];
+const DENSE: Limits = Limits { scan: 0.17, replacement: None, decoding: Some(0.19), report: Some(0.2) };
+const MIXED: Limits = Limits { scan: 0.18, replacement: None, decoding: Some(0.19), report: Some(0.2) };
+/// Counts that pass 255 are made again, under two steps.
+const NEAR: Limits = Limits { scan: 0.2, replacement: None, decoding: None, report: None };
+const HALF: Limits = NEAR;
+/// In the order of the pages that are scanned.
+const LIMITS: [Limits; 5] = [EXACT, DENSE, MIXED, NEAR, HALF];
 /// The limits of a parse, by its pages: exact, dense, mixed; 0, 50 and 200 rows; 384 falling slots, random, all zero. Those of all rows: 50 and
 /// 200 rows, 384 falling slots. Where a prelude confirms the rows the original has little to do, and that is what the reader must not be slower than.
 const STRICT_PARSE: [f64; 9] = [0.87, 0.62, 0.21, 0.51, 1.0, 1.0, 0.0044, 0.61, 0.77];
@@ -44,30 +48,31 @@ fn main() -> ExitCode {
     let report = PathBuf::from(args.next().expect("REPORT is the program report"));
     let rounds = args.next().map_or(200, |a| a.parse().expect("ROUNDS is a number"));
     let stored = progressions();
-    let near = near();
+    let others = [near(), half()];
+    let scanned: Vec<&Pages> = stored.iter().chain(&others).collect();
     let [falling, widest] = falling();
     let plain: Vec<Pages> = tables().into_iter().chain([falling, random(), zero()]).collect();
     let frames = Frames::all(&stored);
-    let alike = stored
+    let alike = scanned
         .iter()
+        .copied()
         .chain(&plain)
-        .chain([&near, &widest])
+        .chain([&widest])
         .try_for_each(Pages::check)
         .and_then(|_| frames.iter().try_for_each(|f| f.check(&report)));
     #[cfg(before)]
-    let alike = alike.and_then(|_| before::check(&stored, &near));
+    let alike = alike.and_then(|_| before::check(&scanned));
     if let Err(difference) = alike {
         println!("{difference}");
         return ExitCode::FAILURE;
     }
 
     let mut groups = vec![crc(&stored)];
-    let scanned: Vec<(&Pages, Limits)> = stored.iter().chain([&near]).zip(LIMITS).collect();
-    groups.extend(scanned.iter().map(|(pages, limits)| scan(pages, limits)));
+    groups.extend(scanned.iter().zip(LIMITS).map(|(pages, limits)| scan(pages, limits)));
     #[cfg(before)]
-    groups.extend(before::groups(&stored, &near));
-    groups.extend(scanned.iter().map(|(pages, limits)| decode(pages, limits)));
-    groups.extend(scanned.iter().map(|(pages, _)| supplied(pages)));
+    groups.extend(before::groups(&scanned));
+    groups.extend(scanned.iter().zip(LIMITS).map(|(pages, limits)| decode(pages, limits)));
+    groups.extend(scanned.iter().map(|pages| supplied(pages)));
     for (question, leniency, limits) in
         [("parse, strict", Leniency::STRICT, STRICT_PARSE), ("parse, DIRECTORY", Leniency::DIRECTORY, DIRECTORY_PARSE)]
     {
@@ -108,7 +113,7 @@ fn each<'a>(g: &mut Group<'a>, mut ask: impl FnMut(usize) + 'a) -> usize {
 }
 
 /// The original has no replacement: it scans the page anew.
-fn scan<'a>(pages: &'a Pages, limits: &Limits) -> Group<'a> {
+fn scan(pages: &Pages, limits: Limits) -> Group<'_> {
     let p = &pages.stored;
     let mut g = Group::default();
     let mut shifted = [0; SHIFTED];
@@ -134,7 +139,7 @@ fn summaries(pages: &Pages) -> Vec<(Fits, [u8; SHIFTED])> {
     pages.stored.iter().enumerate().map(summary).collect()
 }
 
-fn decode<'a>(pages: &'a Pages, limits: &Limits) -> Group<'a> {
+fn decode(pages: &Pages, limits: Limits) -> Group<'_> {
     let p = &pages.stored;
     let mut g = Group::default();
     let mut out = [0; PAGE];
@@ -217,10 +222,11 @@ struct Frames {
 }
 
 impl Frames {
-    /// Twelve times the pages of each kind, and a thousand pages of zeros. Exact pages ten times as often: they take little beside a start.
+    /// The pages of each kind so many times over, and a thousand pages of zeros. The start of a program takes as long as eight dense or mixed pages, a
+    /// sixtieth of their 480, and as long as a hundred exact ones.
     fn all(kinds: &[Pages]) -> Vec<Frames> {
         let zeros = [vec![0; PAGE]];
-        let kinds = kinds.iter().zip([120, 12, 12]).zip(LIMITS);
+        let kinds = kinds.iter().zip([120, 60, 60]).zip(LIMITS);
         let kinds = kinds.map(|((k, times), limits)| Frames::new(k.name, &k.stored, times * COUNT, limits.report));
         kinds.chain([Frames::new("all zero", &zeros, 1000, None)]).collect()
     }

@@ -8,7 +8,7 @@ use std::collections::BTreeSet;
 use std::fs::write;
 use std::path::Path;
 
-use compare::kinds::{Case, KINDS, Kind, MANY_CANDIDATES, Replacement, case_among, recrc, write_sector};
+use compare::kinds::{Case, KINDS, Kind, MANY_CANDIDATES, PEAKS_ABOUT_255, Replacement, case_among, recrc, write_sector};
 use compare::layouts;
 use compare::limits::{self, Class, GREATEST, OUTSIDE, USUAL};
 use compare::plan::{DATA, Plan, put, triangular};
@@ -111,8 +111,9 @@ fn main() {
     };
     let seed = seed.parse().expect("SEED is a number");
     let mut frozen = Frozen::default();
-    // Apart, so that the questions of the other kinds stay as they are.
-    let (many, others): (Vec<Kind>, Vec<Kind>) = KINDS.iter().partition(|kind| kind.0 == MANY_CANDIDATES);
+    // Apart or not at all, so that the questions of the other kinds stay as they are.
+    let kinds = KINDS.iter().filter(|kind| kind.0 != PEAKS_ABOUT_255);
+    let (many, others): (Vec<Kind>, Vec<Kind>) = kinds.partition(|kind| kind.0 == MANY_CANDIDATES);
     for index in 0..6_000 {
         let case = case_among(&others, seed, index);
         fields(&case, &mut frozen);
