@@ -29,7 +29,7 @@ struct Lines {
 }
 
 // Sector k of a family, in the first n bytes.
-pub fn make(stored: &mut [u8], family: Family, n: usize, k: usize) {
+pub(crate) fn make(stored: &mut [u8], family: Family, n: usize, k: usize) {
     let lines = lines_of(k);
     let mut random = lines.random;
     let mut i: usize = 0;

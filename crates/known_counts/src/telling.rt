@@ -11,7 +11,7 @@ pub struct Seen {
     same: bool,
 }
 
-pub fn nothing() -> Seen {
+pub(crate) fn nothing() -> Seen {
     Seen {
         least_peak: 65535,
         greatest_peak: 0,
@@ -23,7 +23,7 @@ pub fn nothing() -> Seen {
 }
 
 // A sector more, with its fit, its shifted bytes, and whether both engines gave these.
-pub fn noted(seen: Seen, fit: Fit, shifted: &[u8], same: bool) -> Seen {
+pub(crate) fn noted(seen: Seen, fit: Fit, shifted: &[u8], same: bool) -> Seen {
     Seen {
         least_peak: least(seen.least_peak, fit.peak),
         greatest_peak: greatest(seen.greatest_peak, fit.peak),
@@ -66,7 +66,7 @@ fn sum_with(sum: u64, x: u64) -> u64 {
 }
 
 // What the sectors are.
-pub fn name(n: usize, on: usize, second: bool, others: &[u8]) {
+pub(crate) fn name(n: usize, on: usize, second: bool, others: &[u8]) {
     number(b"", n as u64);
     number(b" bytes, ", on as u64);
     text(b" on a line");
@@ -77,7 +77,7 @@ pub fn name(n: usize, on: usize, second: bool, others: &[u8]) {
 }
 
 // What was met in so many.
-pub fn tell(count: usize, seen: Seen) {
+pub(crate) fn tell(count: usize, seen: Seen) {
     number(b": ", count as u64);
     range(b" sectors, peaks ", seen.least_peak, seen.greatest_peak);
     range(
