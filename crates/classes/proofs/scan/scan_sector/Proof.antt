@@ -1,4 +1,4 @@
--- `scan_sector` meets its contract: the table of the modal counts gives the fit; a sector of another length has the full scan, with the same contract.
+-- `scan_sector` meets its contract: the table of the modal counts gives the fit; a sector of another length has the histograms of `sector`, with the same contract.
 use Prim.Native.Nat.{ℕ, _%_, _≤_}
 use mathlib.Core.Path.{_≡_, sym, ap, _∙_}
 use mathlib.Core.List.{List}
