@@ -1,5 +1,7 @@
 // The choice of bv: document 01, "Choosing bv"; `choose_bv` and the choice of `deobfuscate_with_bv` in the original's ap.rs. Four rules, in order,
 // each a function of its own, over the candidates of an assessment.
+#![tactic(auto)]
+
 mod rules;
 mod supplied;
 

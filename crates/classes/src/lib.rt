@@ -3,6 +3,8 @@
 // The count of a value in two classes together is the sum of theirs, the second's turned round by a multiple of k. So each sector is counted sixteen times
 // and not 256 times, and rings are added for the rest. A count that shows 255 is made again by one histogram, and a sector whose length is no multiple of
 // 16 has the histograms of `sector`. It must equal `sector::scan_sector` on every sector, and has that function's contract. The original has no such part.
+#![tactic(auto)]
+
 mod counts;
 mod scan;
 

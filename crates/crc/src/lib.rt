@@ -6,6 +6,8 @@
 //   places on. That is four additions of whole vectors, up to the last 304 octets.
 // - wide: by the relation itself, words of 64 bits pass through a register of 320 bits, a dozen shifts a word, up to the last 40 octets.
 // - register: what is left goes through the shift register, 64 steps at once, and at the very end bit by bit.
+#![tactic(auto)]
+
 mod fold;
 mod register;
 mod wide;

@@ -3,6 +3,8 @@
 // Where the original has one reading, by its own scan, here that reading is the one from a summary, at the scan's: what holds of one holds of
 // the other. A page is scanned after the limit and its integrity were answered, and not at all if one of them refuses it: the scan is most of a
 // decoding's time.
+#![tactic(auto)]
+
 mod entries;
 mod own;
 mod plaintext;

@@ -9,6 +9,8 @@
 //
 // An answer is a line: the layout of include/lumeviqo.h in hexadecimal, then the CRC-32 of each buffer that the function may write to.
 // stdin and stdout were made beside the original, by compare/driver/src/bin/freeze.rs; the program needs no original.
+#![tactic(auto)]
+
 ghost use Rattle.std.specs.Prelude.{length, ◌≡◌};
 ghost use Rattle.parse_layout.specs.ParseLayouts.{parse_size};
 

@@ -1,5 +1,7 @@
 // Groups of candidates: document 01, "Choosing bv". A group is a value, so one loop serves every rule; what a rule takes of a group is its first
 // candidate, the highest in rank, the greatest count, or the values of bv. In the original's ap.rs these are iterators over its candidates.
+#![tactic(auto)]
+
 mod figures;
 mod members;
 mod ranks;

@@ -2,6 +2,8 @@
 // exact and votes for another value. The expected line is the document's. Then a supplied bv with row count 0, at T 0 and at T 1: the original
 // has T 4 alone, so these lines follow from document 01 by hand. So do those of a directory past 0x300, and of a limit out of range, from
 // document 02: the original has the limit 768 alone.
+#![tactic(auto)]
+
 ghost use Rattle.std.specs.Prelude.{◌≡◌, length};
 
 use answers::Options;

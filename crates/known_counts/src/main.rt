@@ -2,6 +2,8 @@
 // fit and shifted bytes. Of each family of sectors a line is printed: their length and what they are, how many, the least and the greatest peak and
 // runner-up, a sum over all fits and shifted bytes in their order, and whether the two engines gave the same. What it must be was counted by make-stdout.py
 // from document 01's rules.
+#![tactic(auto)]
+
 mod making;
 mod telling;
 

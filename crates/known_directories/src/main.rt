@@ -1,6 +1,8 @@
 // Pages whose answers are known: document 01's page with four rows, one for each of the answers 1, 8 to 12, 16 and 20, and those that settle
 // points of docs/DECISIONS.md, strictly and leniently. What they must give was written down by the original, from the same pages
 // (compare/driver/src/bin/known.rs); at 769 by a copy with that limit, and at 2,049 by document 02.
+#![tactic(auto)]
+
 use answers::{Answer, Options, ParseWarnings, Values, WarningKind};
 use directory::Declared;
 use libc::{STDIN_FILENO, STDOUT_FILENO};

@@ -6,6 +6,8 @@
 //     page number (16 digits), length (4), seed (8), then any number of parts, each an offset (4), a colon and bytes
 //
 // all hexadecimal, with a blank before each part. The bytes are those of the seed (describe.rt), written over by the parts.
+#![tactic(auto)]
+
 ghost use Rattle.std.specs.Prelude.{◌≤◌, ◌≡◌, length};
 
 mod describe;

@@ -1,6 +1,8 @@
 // Sectors whose bytes lie on a line, or leave it at one byte or from one byte on, scanned by both engines: `quick` must answer as `sector` does, fit and
 // shifted bytes. What is printed of a sector: its length, the step of the line, the first byte that is off it and the end of those that are, then the fit, a
 // sum over the shifted bytes in their order, and whether the two engines gave the same. What it must be was counted by make-stdout.py from document 01's rules.
+#![tactic(auto)]
+
 ghost use Rattle.std.specs.Prelude.{◌≡◌, length};
 
 use libc::STDOUT_FILENO;

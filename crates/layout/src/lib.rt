@@ -1,5 +1,7 @@
 // The layouts of include/lumeviqo.h for a stored page: each whole answer, written at the front of a lent buffer. A writer returns how many bytes it wrote; a
 // buffer that has no room for the layout stays as it is, with 0. What stands behind the layout stays. The original has no such part.
+#![tactic(auto)]
+
 mod decodings;
 mod pages;
 mod summaries;

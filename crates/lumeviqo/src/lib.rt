@@ -1,6 +1,8 @@
 // The reader for programs in other languages: the functions of include/lumeviqo.h. Each calls one proved function and writes its whole answer to the buffer
 // `answer`, in a layout of `layout`, `parse_layout` or `row_layout`. Where that buffer is too short, or what is lent as fits is no eight fits, nothing is
 // written to any buffer.
+#![tactic(auto)]
+
 mod decodings;
 mod directories;
 mod pages;

@@ -1,5 +1,7 @@
 // Whether one run of bytes occurs in another: document 01, "Page, trailer, superblock", the marker on page 0. It carries over the search in the
 // original's superblock.rs.
+#![tactic(auto)]
+
 ghost use Rattle.std.specs.Prelude.{◌≡◌};
 ghost use Rattle.marker.specs.Marker.{starts_with, occurs_in};
 

@@ -1,5 +1,7 @@
 // Numbers as bytes and bytes as numbers, by value, and both written to a lent buffer at a place. A put is total: what does not fit leaves the buffer as it
 // is. It returns the place behind what it wrote, so that puts follow one another with no place written down. The original has this in its standard library.
+#![tactic(auto)]
+
 mod bytes;
 mod puts;
 mod same;

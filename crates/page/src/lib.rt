@@ -4,6 +4,8 @@
 // It departs from them in three ways. A page is a lent slice, so every entry that needs a whole page refuses another length with
 // answer 1, where the original has a type for it. A record holds its values, where the original's has accessors over raw bytes. And the
 // checked superblock is a function of the page alone, where the original tests the magic in its store.
+#![tactic(auto)]
+
 mod fields;
 mod integrity;
 mod superblocks;

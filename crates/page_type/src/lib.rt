@@ -1,4 +1,6 @@
 // Page types, from the letter in the trailer: document 01, "Page, trailer, superblock". It carries over the original's page.rs, PageType.
+#![tactic(auto)]
+
 ghost use Rattle.std.specs.Prelude.{◌≡◌};
 ghost use Rattle.page_type.specs.Types.{is_variant, upper_of, type_of, byte_of};
 

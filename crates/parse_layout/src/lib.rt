@@ -1,5 +1,7 @@
 // The layout of include/lumeviqo.h for a parse, written as those of `layout` are. Its parts are put straight from the page, and no table stands in
 // between: whoever calls may be short of stack.
+#![tactic(auto)]
+
 ghost use Rattle.std.specs.Prelude.{◌≡◌, ◌+◌, ◌*◌, ◌≤◌, length};
 ghost use Rattle.numbers.specs.Writes.{Wrote};
 ghost use Rattle.fields.specs.Fields.{layout_bytes, Put};

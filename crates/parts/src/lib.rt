@@ -1,6 +1,8 @@
 // The parts that the layouts of include/lumeviqo.h are made of: the answer part, fits, evidence, warnings, values of bv, slots. Each but the last is put at
 // a place of a lent buffer, field by field, and returns the place behind it; `fits_in` reads fits back. Numbers are little-endian; a place that a part does
 // not use is zero.
+#![tactic(auto)]
+
 mod entries;
 mod lent;
 mod tables;

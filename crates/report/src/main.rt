@@ -1,4 +1,6 @@
 // `report`: reads frames, one a line in hexadecimal, and writes a report line for each. Called in another way, it says how it is used.
+#![tactic(auto)]
+
 use libc::{STDERR_FILENO, STDIN_FILENO};
 
 fn main() {

@@ -3,6 +3,8 @@
 //
 // It departs from the original in shape: rows are read from the directory's far end, where it stands, with no copy and no sorting: one by its
 // number, or all of them into a lent buffer.
+#![tactic(auto)]
+
 mod spans;
 mod starts;
 

@@ -3,6 +3,8 @@
 // into a lent buffer; a sector of more than 512 bytes, or a buffer of another length, gives a blank; a lead is a plain sum, where the
 // original's saturates; a fit says how many steps tied (document 02, #106). Its scan, 256 histograms as the original's, is the plain form that `classes`
 // and `quick` must equal.
+#![tactic(auto)]
+
 mod arith;
 mod fits;
 mod same;

@@ -3,6 +3,8 @@
 //
 // A search takes bytes and the bv to take off each, 0 for a plain page: a candidate bv is tested with no plaintext copy.
 // The scan departs from the original's, which starts anew at each position: it goes once from the limit down to 0.
+#![tactic(auto)]
+
 mod counts;
 mod first_look;
 mod pairs;

@@ -3,6 +3,8 @@
 //
 // It departs from the original in shape: `directory` decides in small values, `locate` says all of it but the slots with no table, and `parse` alone
 // puts slots and warnings into fixed tables.
+#![tactic(auto)]
+
 mod directories;
 mod locations;
 

@@ -1,6 +1,8 @@
 // What speaks for each value of bv: the votes of exact sectors, the counts of the shifted bytes, the row-count test, anchors. Document 01,
 // "Choosing bv"; `assess` of the original's ap.rs. Of 256 values few are common or voted for: the four commonest and the candidates are looked for in blocks of
 // sixteen values, and most blocks are passed over. No plaintext is made to test a candidate.
+#![tactic(auto)]
+
 mod commonest;
 mod listing;
 mod polls;

@@ -1,0 +1,20 @@
+-- `store2` meets its contract: the bytes are stored one behind the other.
+use mathlib.Core.Path.{refl}
+use native.Mathlib.Omega.{arith}
+use lib.ListN.{length-set}
+use Rattle.numbers.proofs.Stored.{stores_from, stores, wrote-not, wrote-stored}
+use Rattle.numbers.proofs.puts.store2.Goals as goal
+
+pub returns-then-out-lt2 : goal.returns-then-out-lt2
+returns-then-out-lt2 c = wrote-not (omega arith)
+
+pub returns-then-out-at : goal.returns-then-out-at
+returns-then-out-at c = wrote-not (omega arith)
+
+pub bounds-out-at-2 : goal.bounds-out-at-2
+bounds-out-at-2 c =
+    simp length-set (omega arith)
+
+pub returns : goal.returns
+unfolding stores stores_from
+returns c = wrote-stored (omega arith) refl refl
