@@ -12,7 +12,7 @@ use answers::{Answer, Bvs, Confidence, Grounds, Options, Source, WarningKind};
 pub use supplied::supplied_bv;
 
 // The choice. `group`: of answer 5 the candidates; of an ambiguous choice that was let through, those it was preferred to.
-#[derive(Drop)]
+#[derive(Clone, Copy)]
 pub struct Choice {
     pub answer: Answer,
     pub bv: u8,

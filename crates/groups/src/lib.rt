@@ -11,7 +11,7 @@ pub use members::kept;
 pub use ranks::{first, highest};
 
 // The groups that the rules speak of.
-#[derive(Drop)]
+#[derive(Clone, Copy)]
 pub enum Group {
     Verified,
     Voted,

@@ -16,7 +16,7 @@ pub use results::{refused, unallocated};
 use sector::Fit;
 
 // The choice with its answer, the eight fits, the warnings in order. Of a refusal, blanks beside the choice.
-#[derive(Drop)]
+#[derive(Clone, Copy)]
 pub struct Decoding {
     pub choice: Choice,
     pub fits: [Fit; 8],

@@ -3,7 +3,7 @@ ghost use Rattle.std.specs.Prelude.{◌≡◌, max, min, length};
 ghost use Rattle.votes.specs.CountTables.{key_of, Leads};
 
 // The commonest value, and the key of the fourth commonest.
-#[derive(Drop)]
+#[derive(Clone, Copy)]
 pub struct Leading {
     pub top: u8,
     pub fourth: u32,

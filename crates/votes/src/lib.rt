@@ -14,7 +14,7 @@ ghost use Rattle.votes.specs.Votes.{no_candidates, with_candidate, assessed};
 pub use polls::{Poll, votes_for};
 
 // A value that bv may have, and what speaks for it.
-#[derive(Drop)]
+#[derive(Clone, Copy)]
 pub struct Candidate {
     pub bv: u8,
     pub zeros: u16,
@@ -24,14 +24,14 @@ pub struct Candidate {
 }
 
 // The candidates, ascending. No 4,080 bytes have more than eight: `votes/Eight.at-most-eight`.
-#[derive(Drop)]
+#[derive(Clone, Copy)]
 pub struct Candidates {
     pub items: [Candidate; 8],
     pub len: usize,
 }
 
 // What the rules of the choice go by.
-#[derive(Drop)]
+#[derive(Clone, Copy)]
 pub struct Assessment {
     pub candidates: Candidates,
     pub total: u16,

@@ -6,14 +6,14 @@ ghost use Rattle.votes.specs.CountTables.{ballots_of};
 use numbers::wide;
 
 // The votes for one value, and all votes.
-#[derive(Drop)]
+#[derive(Clone, Copy)]
 pub struct Poll {
     pub votes: u16,
     pub total: u16,
 }
 
 // How many votes each value has, and how many there are.
-#[derive(Drop)]
+#[derive(Clone, Copy)]
 pub struct Ballots {
     pub votes: [u16; 256],
     pub total: u16,
