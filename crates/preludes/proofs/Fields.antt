@@ -219,3 +219,6 @@ fields-all p n lim fields seen e q = go (leb lim fields) refl
         let l : fields < lim = leb-false lim fields h in
         let z : fields + (lim - fields) ≡ lim = omega arith in
         sym (rw z at (fields-stay p n fields (lim - fields) seen (λ k m. past k seen (omega arith)) (sym q)))
+
+-- the two ways out of `is_longer`
+pub ruleset keeping = (not-longer, maybe-longer)
