@@ -1,7 +1,7 @@
 -- Laws of numbers sorted, the greatest first: the first is the greatest, the next the second. Assumes nothing.
 use Rattle.std.proofs.Common.{◌≡◌, ℕ, zero, suc, ◌+◌, ◌<◌, ◌≤◌, min, max, Bool, true, false, leb, List, [], ◌∷◌, get_or, sym, refl, ap, ◌∙◌, subst, zero-le, add-one, arith, leb-false, leb-true}
 use native.Mathlib.Decide.{dec_lt}
-use Rattle.lists.specs.Cases.{pick, flag}
+use Rattle.lists.specs.Cases.{pick}
 use Rattle.lists.specs.Counts.{count, greatest}
 use Rattle.lists.specs.Pieces.{each, fold}
 use Rattle.lists.specs.Sorting.{insert}

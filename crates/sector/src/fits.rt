@@ -5,7 +5,7 @@ ghost use Rattle.sector.specs.Scan.{blank_fit, blank_fits};
 
 // The step of a sector, the bytes that agree under it, the bytes that agree under the next best, whether all agree, and how many of the
 // 256 steps reach that peak.
-#[derive(Drop)]
+#[derive(Clone, Copy)]
 pub struct Fit {
     pub step: u8,
     pub peak: u16,
