@@ -10,7 +10,7 @@ use crate::sums::{larger, sum_to_255};
 use numbers::wide;
 
 // Four counts: of four steps, or of one ring at four values.
-#[derive(Drop)]
+#[derive(Clone, Copy)]
 pub struct Quad {
     pub a: u8,
     pub b: u8,

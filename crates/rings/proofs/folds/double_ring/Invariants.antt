@@ -1,0 +1,11 @@
+-- `double_ring` meets its contract: the first v values of the ring are laid twice.
+use Rattle.std.proofs.Common.{◌+◌, ◌-◌, ◌≤◌}
+use Rattle.lists.specs.Bytes.{byte_at}
+use Rattle.rings.specs.Table.{Laid}
+use Rattle.rings.proofs.folds.double_ring.Given as goal
+
+abbrev pub invariant-loop-v : goal.invariant-loop-v
+invariant-loop-v l = (l.v ≤ 256) × Laid (λ k. byte_at l.sixteen (l.from + k)) l.initial.out l.to l.v l.out
+
+abbrev pub decreases-loop-v : goal.decreases-loop-v
+decreases-loop-v l = 256 - l.v
