@@ -321,9 +321,9 @@ tail-end : (lim : ℕ) (p : List ℕ) (s : ℕ) → lim ≤ s + 1 → no_tail �
 unfolding tail_of
 tail-end lim p s h = sym (ap tail_of (words-end lim p s h))
 
-pub tail_more : (lim : ℕ) (p : List ℕ) (s w : ℕ) (next r : Tail) → lim ≤ length p → s + 1 < lim → w ≡ pair_at p s → next ≡ tail_of (words_from lim p (s + 2)) → r ≡ extended w next → r ≡ tail_of (words_from lim p s)
+pub tail_more : (lim : ℕ) (p : List ℕ) (s w : ℕ) (beyond r : Tail) → lim ≤ length p → s + 1 < lim → w ≡ pair_at p s → beyond ≡ tail_of (words_from lim p (s + 2)) → r ≡ extended w beyond → r ≡ tail_of (words_from lim p s)
 unfolding tail_of
-tail_more lim p s w next r le h e f g = g ∙ ap (extended w) f ∙ sym (ap tail_of (words-here lim p s le w h e))
+tail_more lim p s w beyond r le h e f g = g ∙ ap (extended w) f ∙ sym (ap tail_of (words-here lim p s le w h e))
 
 -- a scan of fewer than four live slots counts as none
 pub counting : Scan → Scan
@@ -408,3 +408,6 @@ swept-last lim p near far le h e f =
 pub swept_all : (lim : ℕ) (p : List ℕ) (s : ℕ) (near far : Tail) (best : Scan) → Swept lim p s near far best → s ≡ 0 → directory_from best ≡ scanned_directory lim p
 swept_all lim p s near far best g z =
     ap directory_from (g.best-is ∙ ap (λ (k : ℕ). counting (best_from lim p k (lim - k))) z) ∙ counting-directory (best_from lim p 0 (lim - 0)) ∙ from_start lim p (best_from lim p 0 (lim - 0)) refl
+
+-- the three ways out of `kept`
+pub ruleset keeping = (kept-few, kept-far, kept_run)

@@ -8,14 +8,14 @@ ghost use Rattle.slots.specs.Sweep.{no_tail, extended, tail_of, tail_scan, stron
 use crate::values::{is_offset, pair_at};
 
 // What a scan finds: where its array starts, its slots without trailing zeros, and how many of them are live. It ends at start + 2 * slots.
-#[derive(Drop)]
+#[derive(Clone, Copy)]
 pub struct Scan {
     pub start: usize,
     pub slots: usize,
     pub live: usize,
 }
 
-#[derive(Drop)]
+#[derive(Clone, Copy)]
 pub enum Found {
     Directory(Scan),
     Nothing,
@@ -23,7 +23,7 @@ pub enum Found {
 
 // What is known of the pairs from a position on: the first that is not zero, the zero pairs before it, and the slots and live slots of
 // the run that it starts. Where it is no offset, or there is none, the value is 0xFF0, which no offset is above.
-#[derive(Drop)]
+#[derive(Clone, Copy)]
 pub(crate) struct Tail {
     value: usize,
     gap: usize,
@@ -137,6 +137,7 @@ fn carried(w: usize, value: usize, n: usize) -> usize
 
 // The better of the scan from s and the best of the later ones. One zero pair before the array is skipped, and a scan of fewer than four
 // live slots is left out at once: most starts end there.
+#[tactic(auto, using(crate::proofs::Sweeps::keeping))]
 fn kept(s: usize, t: Tail, best: Scan) -> Scan
     requires { s < 9223372036854775808 }
     ensures { result ≡ stronger_kept (tail_scan s t) best }

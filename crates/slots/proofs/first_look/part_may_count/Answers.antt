@@ -1,0 +1,11 @@
+-- `part_may_count` meets its contract: nothing was seen at the positions so far.
+use Rattle.std.proofs.Common.{sym, ◌∙◌, rules}
+use Rattle.slots.proofs.Looks.{may_more, may_at}
+use Rattle.slots.proofs.first_look.part_may_count.Goals as goal
+
+pub returns-then-may_count_at : goal.returns-then-may_count_at
+returns-then-may_count_at c = sym (may_at _ _ _ _ _ c.loop-i-test.true (sym c.may_count_at.ensures ∙ c.if-may_count_at.true))
+
+pub loop-i-preserved : goal.loop-i-preserved
+loop-i-preserved c =
+    (search rules, may_more _ _ _ _ c.loop-i.invariant.1 (sym c.may_count_at.ensures ∙ c.if-may_count_at.false))
