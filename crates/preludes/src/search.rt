@@ -9,7 +9,7 @@ use numbers::{pair, wide};
 use slots::{SLOT_OFFSET_MIN, has_count, is_offset};
 
 // How many slots were read at a place, and how many of them are live.
-#[derive(Drop)]
+#[derive(Clone, Copy)]
 pub(crate) struct Run {
     taken: usize,
     live: usize,
@@ -17,7 +17,7 @@ pub(crate) struct Run {
 
 // What the search finds: nothing; the longest array that breaks off, its slots and the offset of the pair that failed; the one start;
 // two that differ.
-#[derive(Drop)]
+#[derive(Clone, Copy)]
 pub enum Prelude {
     Missing,
     Truncated { found: usize, stop: usize },
