@@ -1,7 +1,7 @@
 -- A sparse multiple of the generator: where it says that x ^ n is a sum of a few lower powers, n steps are a sum of a few shorter runs.
 -- That is computed once, at the number 1, and holds of every number that enough further steps reduce. Assumes nothing.
 use mathlib.Core.Path.{◌≡◌, refl, sym, ap, ap₂, ◌∙◌}
-use Prim.Native.Nat.{ℕ, zero, suc, ◌+◌, ◌-◌, ◌*◌, ◌/◌, ◌%◌, ◌^◌, ◌<◌}
+use Prim.Native.Nat.{ℕ, zero, suc, ◌*◌, ◌/◌, ◌%◌, ◌^◌, ◌<◌}
 use native.Mathlib.Nat.{mod-lt, div-add-mod', pow-suc, add-zero}
 use native.Mathlib.Omega.{arith}
 use lib.Arith.{lt-one}
