@@ -18,7 +18,7 @@ pub const LINE_ROOM: usize = 2 * FRAME_MOST + 1;
 const FRAME_LEAST: usize = HEAD + PAGE;
 
 // What a line says: the fields, with the number of anchors; its bytes stand in a lent buffer. Any other line is `Nothing`.
-#[derive(Drop)]
+#[derive(Clone, Copy)]
 pub enum Frame {
     Good {
         number: u64,

@@ -16,7 +16,7 @@ const SA_COPYRIGHT_MARKER: [u8; 33] = *b"SAP SE, Copyright (c)2015 17.0.4.";
 // The flag bits that every known file has; an edition adds bits of its own, as 0x40 or 0x20.
 const FLAGS_06_BASE: u8 = 0x09;
 
-#[derive(Drop)]
+#[derive(Clone, Copy)]
 pub struct FormatVersion {
     pub major: u32,
     pub a: u16,
@@ -44,7 +44,7 @@ impl FormatVersion {
     }
 }
 
-#[derive(Drop)]
+#[derive(Clone, Copy)]
 pub struct Superblock {
     pub flags_06: u8,
     pub flags_06_variant_bits: u8,
@@ -56,7 +56,7 @@ pub struct Superblock {
 }
 
 // A refusal has a blank superblock.
-#[derive(Drop)]
+#[derive(Clone, Copy)]
 pub struct SuperblockAnswer {
     pub answer: Answer,
     pub superblock: Superblock,

@@ -9,7 +9,7 @@ use page_type::{PageType, case_variant};
 // Eight sectors of 512 bytes, the last cut short by the trailer.
 pub const PAGE_SIZE: usize = 4096;
 
-#[derive(Drop)]
+#[derive(Clone, Copy)]
 pub struct PageTrailer {
     pub row_count: u8,
     pub page_type: PageType,
@@ -20,7 +20,7 @@ pub struct PageTrailer {
 }
 
 // A refusal has a blank record.
-#[derive(Drop)]
+#[derive(Clone, Copy)]
 pub struct TrailerAnswer {
     pub answer: Answer,
     pub trailer: PageTrailer,

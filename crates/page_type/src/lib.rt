@@ -4,7 +4,7 @@
 ghost use Rattle.std.specs.Prelude.{◌≡◌};
 ghost use Rattle.page_type.specs.Types.{is_variant, upper_of, type_of, byte_of};
 
-#[derive(Drop)]
+#[derive(Clone, Copy)]
 pub enum PageType {
     Extent,
     Alloc,
