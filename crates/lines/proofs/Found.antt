@@ -14,7 +14,7 @@ use Rattle.lists.proofs.Booleans.{and_yes, and-no-left, and-no-right}
 use Rattle.lists.proofs.Over.{over-length, over-up-to, over_none}
 use Rattle.numbers.specs.Writes.{Wrote}
 use Rattle.numbers.proofs.Kept.{kept-room}
-use Rattle.lines.specs.Next.{line_end, has_ended, part_at, fitting, kept_in, kept_number, in_block, next_of, line_after, found}
+use Rattle.lines.specs.Next.{line_end, has_ended, part_at, fitting, kept_in, kept_number, in_block, next_of, line_after}
 use Rattle.lines.specs.declared.next.Next.{Next}
 use Rattle.lines.proofs.Newlines.{end_none, end_below}
 

@@ -7,7 +7,7 @@ use native.Mathlib.Omega.{arith}
 use lib.ListN.{length, take, drop, length-append, drop_of_length-le}
 use lib.Seq.{length-take-le}
 use Rattle.lines.specs.Input.{output_from, output_of, flat, last_reply}
-use Rattle.lines.specs.Steps.{Steps, Stepped}
+use Rattle.lines.specs.Steps.{Stepped}
 use Rattle.lines.specs.declared.next.Step.{Step}
 use Rattle.lines.specs.Runs.{Run, sent_count, Passed, Written}
 use Rattle.lines.proofs.Output.{output-last}

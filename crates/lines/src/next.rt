@@ -7,7 +7,7 @@ use numbers::put_bytes;
 
 // A line that has ended, at the place `end`: it stands in the block where `len` is 0, else its first `len` characters stand in the line buffer.
 // Or no line has ended, and `len` characters are kept of an unfinished one.
-#[derive(Drop)]
+#[derive(Clone, Copy)]
 pub struct Next {
     pub ended: bool,
     pub end: usize,
@@ -15,7 +15,7 @@ pub struct Next {
 }
 
 // How far a program's step came: the place in the block, what is kept of a line from before that place, and what waits in the output.
-#[derive(Drop)]
+#[derive(Clone, Copy)]
 pub struct Step {
     pub from: usize,
     pub kept: usize,

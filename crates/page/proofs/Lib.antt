@@ -2,4 +2,4 @@
 pub mod Zeros
 pub mod Trailer
 pub mod Verdicts
-pub mod Superblock
+pub mod FirstPage
