@@ -1,7 +1,6 @@
 -- The value of a digit, and the values of a line's characters. Assumes nothing.
 use Rattle.std.proofs.Common.{◌≡◌, ℕ, ◌+◌, ◌-◌, ◌*◌, ◌/◌, ◌%◌, ◌<◌, ◌≤◌, min, max, true, false, ltb, leb, List, length, ap, ◌∙◌, arith, ltb-false, ltb-true, le-leb, leb-false, leb-true}
 use Rattle.lists.specs.Bytes.{byte_at}
-use Rattle.lists.specs.Counts.{greatest}
 use Rattle.lists.specs.Pieces.{over}
 use Rattle.lists.specs.Cases.{pick}
 use Rattle.lists.proofs.Picks.{pick-case, pick-le, pick-gt}
