@@ -6,7 +6,7 @@ ghost use Rattle.answers.specs.Answers.{number_of, values_of, is_accepted, reaso
 use crate::values::Values;
 
 // Why slot-like data is no directory.
-#[derive(Drop)]
+#[derive(Clone, Copy)]
 pub enum Reason {
     CountBelowFour,
     FewerThanEightLive,
@@ -26,7 +26,7 @@ impl Reason {
 }
 
 // What became of a page, a replacement, a row or a line. The candidates of an ambiguous calibration stand beside it.
-#[derive(Drop)]
+#[derive(Clone, Copy)]
 pub enum Answer {
     Accepted,
     WrongPageLength(usize),
@@ -168,7 +168,7 @@ impl Answer {
 }
 
 // Values of bv: the candidates of an ambiguous calibration, ascending.
-#[derive(Drop)]
+#[derive(Clone, Copy)]
 pub struct Bvs {
     pub items: [u8; 8],
     pub len: usize,

@@ -6,7 +6,7 @@ ghost use Rattle.answers.specs.Warns.{warning_number, warning_values, no_warning
 use crate::values::Values;
 
 // What was accepted. The other candidates of an ambiguous calibration stand beside it; an unused place has `Nothing`.
-#[derive(Drop)]
+#[derive(Clone, Copy)]
 pub enum WarningKind {
     Nothing,
     BadCrc,
@@ -87,14 +87,14 @@ impl WarningKind {
     }
 }
 
-#[derive(Drop)]
+#[derive(Clone, Copy)]
 pub struct Warning {
     pub page: u64,
     pub kind: WarningKind,
 }
 
 // The warnings of a decoding: one on integrity, one on the choice of bv, one for each sector.
-#[derive(Drop)]
+#[derive(Clone, Copy)]
 pub struct Warnings {
     pub items: [Warning; 10],
     pub len: usize,
@@ -128,7 +128,7 @@ impl Warnings {
 }
 
 // The warnings of a parse.
-#[derive(Drop)]
+#[derive(Clone, Copy)]
 pub struct ParseWarnings {
     pub items: [Warning; 1026],
     pub len: usize,

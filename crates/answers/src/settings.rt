@@ -3,7 +3,7 @@ ghost use Rattle.std.specs.Prelude.{◌≡◌};
 ghost use Rattle.answers.specs.Settings.{leniency_of, options_of, limit_fits, has_keystream, has_directory, has_integrity, keystream, directory, integrity, strict_options};
 
 // The checks that are relaxed. Other bits mean nothing.
-#[derive(Drop)]
+#[derive(Clone, Copy)]
 pub struct Leniency {
     pub bits: u8,
 }
@@ -44,7 +44,7 @@ impl Leniency {
 }
 
 // The leniency, T, and the search limit: a scan stays in that many first bytes, and a prelude's field begins there.
-#[derive(Drop)]
+#[derive(Clone, Copy)]
 pub struct Options {
     pub leniency: Leniency,
     pub min_trailer_count: u8,
@@ -77,6 +77,7 @@ impl Options {
     }
 
     // Whether a search limit is one of 8 to 2,048: four live slots take 8 bytes. Another is refused with 20.
+    #[tactic(auto, unfolding(crate::specs::Settings::limit_fits))]
     pub fn limit_fits(limit: usize) -> bool
         ensures { result ≡ limit_fits limit }
     {

@@ -6,7 +6,7 @@ ghost use Rattle.answers.specs.Trust.{source_number, confidence_number, evidence
 use crate::values::Values;
 
 // How a page's bv was determined; of a refusal, `Refused`.
-#[derive(Drop)]
+#[derive(Clone, Copy)]
 pub enum Source {
     Refused,
     TrailerRowCount,
@@ -34,7 +34,7 @@ impl Source {
 }
 
 // How far a page's bv can be trusted, the least first; of a refusal, `Refused`.
-#[derive(Drop)]
+#[derive(Clone, Copy)]
 pub enum Confidence {
     Refused,
     Unallocated,
@@ -60,7 +60,7 @@ impl Confidence {
 }
 
 // One piece of evidence for a bv; an unused place of the table has `Nothing`.
-#[derive(Drop)]
+#[derive(Clone, Copy)]
 pub enum Evidence {
     Nothing,
     TrailerRowCount,
@@ -102,13 +102,13 @@ impl Evidence {
 }
 
 // A place of the table.
-#[derive(Drop)]
+#[derive(Clone, Copy)]
 pub struct Ground {
     pub evidence: Evidence,
 }
 
 // The evidence for a bv, in document 01's order.
-#[derive(Drop)]
+#[derive(Clone, Copy)]
 pub struct Grounds {
     pub items: [Ground; 4],
     pub len: usize,

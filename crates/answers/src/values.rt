@@ -3,7 +3,7 @@ ghost use Rattle.std.specs.Prelude.{◌≡◌, [], ◌∷◌};
 ghost use Rattle.answers.specs.Values.{placed};
 
 // How many values there are, and the values; 0 in an unused place.
-#[derive(Drop)]
+#[derive(Clone, Copy)]
 pub struct Values {
     pub count: u8,
     pub first: u64,
