@@ -1,6 +1,6 @@
 /*
  * Lumeviqo, a reader of SQL Anywhere 17 page files, for C and for what speaks C.
- * The library: `rt staticlib lumeviqo` writes target/staticlib/liblumeviqo.a, for x86-64 Linux.
+ * The library: `tools/build library` writes target/staticlib/liblumeviqo.a, for x86-64 Linux.
  *
  * Every function takes each buffer as a pointer and a length in bytes, and writes its whole answer to the buffer `answer` in the
  * layouts below. It returns how many bytes of `answer` it wrote. It returns 0, and writes nothing at all to any buffer, where

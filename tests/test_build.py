@@ -24,7 +24,7 @@ class Build(ProgramTest):
         done = subprocess.run(["cargo", "check", "--quiet", "--offline"], cwd=ROOT / "bindings/rust", env=how, capture_output=True,
                               timeout=LONGEST)
         self.assertNotEqual(done.returncode, 0)
-        words = "run `rt staticlib lumeviqo` in the repository's root, which makes it, or let LUMEVIQO_LIB name the folder that has it"
+        words = "run `tools/build library` in the repository's root, which makes it, or let LUMEVIQO_LIB name the folder that has it"
         self.assertIn(f"there is no {self.folder}/liblumeviqo.a: {words}", done.stderr.decode())
 
 

@@ -1,4 +1,4 @@
-//! Links liblumeviqo.a from LUMEVIQO_LIB, or from where `rt staticlib lumeviqo` writes it, and takes over the numbers of the header.
+//! Links liblumeviqo.a from LUMEVIQO_LIB, or from where `tools/build library` writes it, and takes over the numbers of the header.
 use std::path::{Path, PathBuf, absolute};
 use std::{env, fs};
 
@@ -22,7 +22,7 @@ fn link(root: &Path) {
     println!("cargo::rerun-if-changed={}", library.display());
     if !library.is_file() {
         println!(
-            "cargo::error=there is no {}: run `rt staticlib lumeviqo` in the repository's root, which makes it, or let LUMEVIQO_LIB name \
+            "cargo::error=there is no {}: run `tools/build library` in the repository's root, which makes it, or let LUMEVIQO_LIB name \
              the folder that has it",
             library.display()
         );

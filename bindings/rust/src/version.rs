@@ -12,7 +12,7 @@ pub fn check() {
 fn compare(library: u32) {
     assert!(
         library as usize == header::VERSION,
-        "liblumeviqo.a is of version {library}, include/lumeviqo.h of version {}: take both from one commit, run `rt staticlib lumeviqo` \
+        "liblumeviqo.a is of version {library}, include/lumeviqo.h of version {}: take both from one commit, run `tools/build library` \
          or let LUMEVIQO_LIB name the folder of the library, and build again",
         header::VERSION
     );

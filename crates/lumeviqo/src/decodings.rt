@@ -7,8 +7,7 @@ ghost use Rattle.lumeviqo.specs.Calls.{decoded, decoded_from, supplied, supplied
 use answers::Options;
 use layout::DECODING_SIZE;
 
-#[unsafe(no_mangle)]
-pub extern "C" fn lumeviqo_decode(
+pub fn lumeviqo_decode(
     number: u64,
     stored: &[u8],
     anchors: &[u8],
@@ -30,8 +29,7 @@ pub extern "C" fn lumeviqo_decode(
     layout::write_decoding(answer, found)
 }
 
-#[unsafe(no_mangle)]
-pub extern "C" fn lumeviqo_decode_summary(
+pub fn lumeviqo_decode_summary(
     number: u64,
     stored: &[u8],
     fits: &[u8],
@@ -61,8 +59,7 @@ pub extern "C" fn lumeviqo_decode_summary(
     layout::write_decoding(answer, found)
 }
 
-#[unsafe(no_mangle)]
-pub extern "C" fn lumeviqo_decode_supplied(
+pub fn lumeviqo_decode_supplied(
     number: u64,
     stored: &[u8],
     bv: u8,
@@ -84,8 +81,7 @@ pub extern "C" fn lumeviqo_decode_supplied(
     layout::write_decoding(answer, found)
 }
 
-#[unsafe(no_mangle)]
-pub extern "C" fn lumeviqo_decode_supplied_summary(
+pub fn lumeviqo_decode_supplied_summary(
     number: u64,
     stored: &[u8],
     fits: &[u8],

@@ -4,8 +4,7 @@ ghost use Rattle.lumeviqo.specs.Calls.{parse_told, row_count_told, row_told, row
 
 use answers::Options;
 
-#[unsafe(no_mangle)]
-pub extern "C" fn lumeviqo_parse(
+pub fn lumeviqo_parse(
     number: u64,
     plain: &[u8],
     leniency: u8,
@@ -18,8 +17,7 @@ pub extern "C" fn lumeviqo_parse(
     parse_layout::write_parse(answer, number, plain, options)
 }
 
-#[unsafe(no_mangle)]
-pub extern "C" fn lumeviqo_row_count(
+pub fn lumeviqo_row_count(
     number: u64,
     plain: &[u8],
     leniency: u8,
@@ -34,8 +32,7 @@ pub extern "C" fn lumeviqo_row_count(
     row_layout::write_row_count(answer, x, found.rows)
 }
 
-#[unsafe(no_mangle)]
-pub extern "C" fn lumeviqo_row(
+pub fn lumeviqo_row(
     number: u64,
     plain: &[u8],
     leniency: u8,
@@ -52,8 +49,7 @@ pub extern "C" fn lumeviqo_row(
     row_layout::write_row(answer, x, span)
 }
 
-#[unsafe(no_mangle)]
-pub extern "C" fn lumeviqo_rows(
+pub fn lumeviqo_rows(
     number: u64,
     plain: &[u8],
     leniency: u8,

@@ -9,46 +9,40 @@ ghost use Rattle.layout.specs.Layouts.{layout_version, integrity_bytes, trailer_
 
 use layout::LAYOUT_VERSION;
 
-#[unsafe(no_mangle)]
-pub extern "C" fn lumeviqo_version() -> u32
+pub fn lumeviqo_version() -> u32
     ensures { result ≡ layout_version }
 {
     LAYOUT_VERSION
 }
 
-#[unsafe(no_mangle)]
-pub extern "C" fn lumeviqo_crc32(bytes: &[u8]) -> u32
+pub fn lumeviqo_crc32(bytes: &[u8]) -> u32
     ensures { result ≡ crc32_of bytes.now }
 {
     crc::crc32(bytes)
 }
 
-#[unsafe(no_mangle)]
-pub extern "C" fn lumeviqo_trailer(stored: &[u8], answer: &mut [u8]) -> usize
+pub fn lumeviqo_trailer(stored: &[u8], answer: &mut [u8]) -> usize
     ensures { Wrote answer.old 0 (trailer_bytes (trailer_answer stored.now)) answer.new result }
 {
     let found = page::PageTrailer::parse(stored);
     layout::write_trailer(answer, found)
 }
 
-#[unsafe(no_mangle)]
-pub extern "C" fn lumeviqo_integrity(number: u64, stored: &[u8], answer: &mut [u8]) -> usize
+pub fn lumeviqo_integrity(number: u64, stored: &[u8], answer: &mut [u8]) -> usize
     ensures { Wrote answer.old 0 (integrity_bytes (integrity_of number stored.now)) answer.new result }
 {
     let found = page::check_integrity(number, stored);
     layout::write_integrity(answer, found)
 }
 
-#[unsafe(no_mangle)]
-pub extern "C" fn lumeviqo_superblock(stored: &[u8], answer: &mut [u8]) -> usize
+pub fn lumeviqo_superblock(stored: &[u8], answer: &mut [u8]) -> usize
     ensures { Wrote answer.old 0 (superblock_bytes (superblock_answer stored.now)) answer.new result }
 {
     let found = page::Superblock::parse(stored);
     layout::write_superblock(answer, found)
 }
 
-#[unsafe(no_mangle)]
-pub extern "C" fn lumeviqo_superblock_checked(stored: &[u8], answer: &mut [u8]) -> usize
+pub fn lumeviqo_superblock_checked(stored: &[u8], answer: &mut [u8]) -> usize
     ensures { Wrote answer.old 0 (superblock_bytes (checked_superblock stored.now)) answer.new result }
 {
     let found = page::Superblock::parse_checked(stored);

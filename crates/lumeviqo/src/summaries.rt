@@ -3,8 +3,7 @@ ghost use Rattle.lumeviqo.specs.Calls.{ScanCall, ReplaceCall};
 
 use layout::SCAN_SIZE;
 
-#[unsafe(no_mangle)]
-pub extern "C" fn lumeviqo_scan(
+pub fn lumeviqo_scan(
     number: u64,
     stored: &[u8],
     shifted: &mut [u8],
@@ -20,8 +19,7 @@ pub extern "C" fn lumeviqo_scan(
     layout::write_scan(answer, found)
 }
 
-#[unsafe(no_mangle)]
-pub extern "C" fn lumeviqo_replace(
+pub fn lumeviqo_replace(
     number: u64,
     stored: &mut [u8],
     shifted: &mut [u8],

@@ -13,4 +13,4 @@ pub use puts::{
     put_u64,
 };
 pub use same::all_are;
-pub use values::{bit, eight, long, long8, long16, low, pair, quad, wide};
+pub use values::{bit, eight, long, long8, long16, long32, low, pair, quad, wide};

@@ -41,7 +41,7 @@ pub fn long16(x: u16) -> u64
     x as u64
 }
 
-fn long32(x: u32) -> u64
+pub fn long32(x: u32) -> u64
     ensures { (result ≡ x) × (result < 4294967296) }
 {
     x as u64
