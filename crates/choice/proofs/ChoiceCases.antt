@@ -1,13 +1,16 @@
 -- How each rule decides: a law to a case, its premises in the order of the tests. Assumes nothing.
-use Prim.Native.Nat.{ℕ, ◌≤◌, ◌<◌}
-use mathlib.Core.Path.{◌≡◌}
+use Prim.Native.Nat.{ℕ, ◌-◌, ◌≤◌, ◌<◌}
+use mathlib.Core.Path.{◌≡◌, sym}
 use mathlib.Core.Bool.{Bool, true, false, ◌&&◌}
 use mathlib.Core.List.{List}
 use borrow.Author.Tests.{eq-eqb, ne_eqb, le-leb, lt-leb}
 use lib.Dec.{eqb, leb}
 use lib.ListN.{length}
+use Rattle.lists.specs.Bytes.{plain_of}
+use Rattle.lists.specs.Counts.{count}
+use Rattle.slots.specs.Slots.{row_count_matches}
 use Rattle.answers.specs.Answers.{no_bvs}
-use Rattle.answers.specs.Settings.{limit_fits}
+use Rattle.answers.specs.Settings.{keystream, limit_fits}
 use Rattle.answers.specs.Trust.{no_grounds, ground_if}
 use Rattle.answers.specs.declared.kinds.Answer.TheVariants as answer
 use Rattle.answers.specs.declared.trust.Source.TheVariants as source
@@ -18,6 +21,9 @@ use Rattle.answers.specs.declared.notices.WarningKind.TheVariants as warning
 use Rattle.answers.specs.declared.settings.Options.{Options}
 use Rattle.votes.specs.declared.Candidate.{Candidate}
 use Rattle.votes.specs.declared.Assessment.{Assessment}
+use Rattle.votes.specs.declared.polls.Poll.{Poll}
+use Rattle.votes.specs.Votes.{assessment_of, ballots, poll_of}
+use Rattle.votes.proofs.Ballots.{poll-is}
 use Rattle.groups.specs.declared.Group.TheVariants.{Verified, Voted, Others, Rivals, Contest, Supported}
 use Rattle.groups.specs.Groups.{first_of, members, group, highest_of, bvs_of}
 use Rattle.choice.specs.Rules.{taken_of, refused_of, ambiguous_of, unverified_of, top_candidate, rule_four, is_corroborated, rule_three, is_calibrated, rule_two, sole_of, rule_one, choice_of}
@@ -143,6 +149,14 @@ module _ (number : ℕ) (xs anchors : List ℕ) (n : ℕ) (o : Options) where
   unfolding choice_of
   choice-limit h f = rw (eq-eqb (length xs) 4080 h, f)
 
+  pub choice-is :
+      length xs ≡ 4080
+      → limit_fits o.search_limit ≡ true
+      → choice_of number xs anchors n o
+      ≡ rule_one number (keystream o) (assessment_of o.search_limit xs anchors n o.min_trailer_count)
+  unfolding choice_of
+  choice-is h f = rw (eq-eqb (length xs) 4080 h, f)
+
 -- a supplied bv
 abbrev pub supplied_grounds : ℕ → ℕ → Bool → Grounds
 supplied_grounds votes dissent matches =
@@ -190,3 +204,23 @@ module _ (number bv : ℕ) (xs : List ℕ) (n : ℕ) (o : Options) where
       → supplied_of number bv xs n o ≡ refused_of (answer.LimitOutOfRange o.search_limit) no_bvs
   unfolding supplied_of
   supplied-limit h f = rw (eq-eqb (length xs) 4080 h, f)
+
+  supplied-is :
+      length xs ≡ 4080
+      → limit_fits o.search_limit ≡ true
+      → supplied_of number bv xs n o
+      ≡ supplied_by number (keystream o) bv (count bv (ballots xs)) (length (ballots xs) - count bv (ballots xs))
+      (row_count_matches o.search_limit (plain_of bv xs) n o.min_trailer_count)
+  unfolding supplied_of
+  supplied-is h f = rw (eq-eqb (length xs) 4080 h, f)
+
+  pub supplied-made :
+      (poll : Poll) (dissent : ℕ) (matches lenient : Bool)
+      → length xs ≡ 4080
+      → limit_fits o.search_limit ≡ true
+      → poll ≡ poll_of xs bv
+      → dissent ≡ poll.total - poll.votes
+      → matches ≡ row_count_matches o.search_limit (plain_of bv xs) n o.min_trailer_count
+      → lenient ≡ keystream o
+      → supplied_by number lenient bv poll.votes dissent matches ≡ supplied_of number bv xs n o
+  supplied-made poll dissent matches lenient h f ep ed em el = rw (el, em, ed, ep, poll-is xs bv h) (sym (supplied-is h f))

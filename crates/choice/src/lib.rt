@@ -6,11 +6,9 @@ mod rules;
 mod supplied;
 
 ghost use Rattle.std.specs.Prelude.{◌≡◌};
-ghost use Rattle.choice.specs.Rules.{refused_of};
-ghost use Rattle.choice.specs.Told.{told_choice};
+ghost use Rattle.choice.specs.Rules.{refused_of, choice_of};
 
 use answers::{Answer, Bvs, Confidence, Grounds, Options, Source, WarningKind};
-use sector::Fit;
 pub use supplied::supplied_bv;
 
 // The choice. `group`: of answer 5 the candidates; of an ambiguous choice that was let through, those it was preferred to.
@@ -25,17 +23,9 @@ pub struct Choice {
     pub warned: WarningKind,
 }
 
-// The choice for a page's 4,080 shifted bytes, where the fits tell which sectors are exact, with the stored row count n. A search limit out of range refuses it
-// before a byte is read.
-pub fn choose_bv(
-    number: u64,
-    fits: [Fit; 8],
-    shifted: &[u8],
-    anchors: &[u8],
-    n: u8,
-    options: Options,
-) -> Choice
-    ensures { result ≡ told_choice number fits shifted.now anchors.now n options }
+// The choice for a page's 4,080 shifted bytes, with the stored row count n. A search limit out of range refuses it before a byte is read.
+pub fn choose_bv(number: u64, shifted: &[u8], anchors: &[u8], n: u8, options: Options) -> Choice
+    ensures { result ≡ choice_of number shifted.now anchors.now n options }
 {
     let none = Bvs::none();
     let length = shifted.len();
@@ -46,7 +36,7 @@ pub fn choose_bv(
     if !Options::limit_fits(limit) {
         return refused(Answer::LimitOutOfRange(limit), none);
     }
-    let a = votes::assess(shifted, fits, anchors, limit, n, options.min_trailer_count);
+    let a = votes::assess(shifted, anchors, limit, n, options.min_trailer_count);
     let leniency = options.leniency;
     rules::rule_one(number, leniency.keystream(), a)
 }

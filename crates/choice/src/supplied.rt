@@ -1,24 +1,14 @@
 // A bv that the caller supplies: not chosen, yet the page must support it.
 ghost use Rattle.std.specs.Prelude.{◌≡◌, ◌&&◌, leb, eqb};
-ghost use Rattle.choice.specs.Supplied.{supplied_with, supplied_by};
-ghost use Rattle.choice.specs.Told.{told_supplied};
+ghost use Rattle.choice.specs.Supplied.{supplied_with, supplied_by, supplied_of};
 
 use crate::rules::saturating_sub;
 use crate::{Choice, refused};
 use answers::{Answer, Bvs, Confidence, Evidence, Grounds, Options, Source, WarningKind};
-use sector::Fit;
 
-// For a page's 4,080 shifted bytes, where the fits tell which sectors are exact, with the stored row count n. A search limit out of range refuses it, as it
-// refuses a choice.
-pub fn supplied_bv(
-    number: u64,
-    bv: u8,
-    fits: [Fit; 8],
-    shifted: &[u8],
-    n: u8,
-    options: Options,
-) -> Choice
-    ensures { result ≡ told_supplied number bv fits shifted.now n options }
+// For a page's 4,080 shifted bytes, with the stored row count n. A search limit out of range refuses it, as it refuses a choice.
+pub fn supplied_bv(number: u64, bv: u8, shifted: &[u8], n: u8, options: Options) -> Choice
+    ensures { result ≡ supplied_of number bv shifted.now n options }
 {
     let length = shifted.len();
     if length != 4080 {
@@ -30,7 +20,7 @@ pub fn supplied_bv(
         let none = Bvs::none();
         return refused(Answer::LimitOutOfRange(limit), none);
     }
-    let poll = votes::votes_for(shifted, fits, bv);
+    let poll = votes::votes_for(shifted, bv);
     let dissent = saturating_sub(poll.total, poll.votes);
     let matches = slots::trailer_row_count_matches(
         shifted,

@@ -32,7 +32,7 @@ pub fn decode_page(
     let mut shifted = room();
     let scan = summary::scan_page(number, stored, &mut shifted);
     let fits = scan.fits;
-    let decoding = verdict::decide_scanned(
+    let decoding = verdict::decide(
         number,
         found,
         stored[0xFF0],
@@ -66,14 +66,7 @@ pub fn decode_with_bv(
     let mut shifted = room();
     let scan = summary::scan_page(number, stored, &mut shifted);
     let fits = scan.fits;
-    let decoding = verdict::decide_supplied_scanned(
-        number,
-        bv,
-        stored[0xFF0],
-        fits,
-        &shifted,
-        options,
-    );
+    let decoding = verdict::decide_supplied(number, bv, stored[0xFF0], fits, &shifted, options);
     deliver(decoding.choice, stored, &shifted, out);
     decoding
 }

@@ -45,8 +45,7 @@ use Rattle.verdict.specs.declared.Decoding.{Decoding}
 use Rattle.verdict.specs.Sectors.{entry, refit_of}
 use Rattle.decode.specs.Decode.{plain_page, written_of}
 use Rattle.demands.specs.Demand2.{BestFit, Recovered, Evident, Recovers, last_of, read_page, read_with, left_in}
-use Rattle.verdict.proofs.Truth.{refit-fresh}
-use Rattle.demands.proofs.StoredBytes.{back-shifted, plain_byte, summary-bytes}
+use Rattle.demands.proofs.StoredBytes.{back-shifted, plain_byte, summary-bytes, refit-fresh}
 use Rattle.demands.proofs.Masses.{last-mass}
 use Rattle.demands.proofs.Shapes.{Whole, decoding-whole, supplied-whole}
 

@@ -1,6 +1,5 @@
 -- The proofs of the demands, and what they lean on.
 pub mod Demand1
-pub mod Exactness
 pub mod Replies
 pub mod CallsFromC
 pub mod Limits

@@ -25,11 +25,11 @@ use Rattle.choice.specs.declared.Choice.{Choice}
 use Rattle.choice.specs.Rules.{choice_of}
 use Rattle.verdict.specs.Sectors.{entry, refit_of, first_weak, sector_warnings}
 use Rattle.verdict.specs.Verdict.{warning_noted, settled_of, integrity_refuses, integrity_warning, verdict_of}
-use Rattle.verdict.proofs.Truth.{refit-fresh}
 use Rattle.verdict.proofs.DecisionCases.{sectors-sure, settled-taken, settled-lenient, verdict-settled}
 use Rattle.decode.specs.Decode.{entry_answer, entry_checked, decoding_of}
 use Rattle.demands.specs.Demand2.{read_page}
 use Rattle.demands.specs.Accepted.{GoodPage, Confident}
+use Rattle.demands.proofs.StoredBytes.{refit-fresh}
 
 -- ---- confident sectors refuse nothing, and give no warning
 

@@ -6,10 +6,13 @@ use native.Mathlib.Omega.{arith}
 use lib.ListN.{length, get_or, get_or-append}
 use Rattle.lists.specs.Bytes.{less, plain_of, AllBytes}
 use Rattle.lists.proofs.Plain.{less-byte, less-add, plain-length, plain_at}
+use Rattle.lists.proofs.Each.{each_at, each-ext}
 use Rattle.sector.specs.Byte.{offset_of, shifted_of}
+use Rattle.sector.specs.Scan.{blank_fit}
 use Rattle.sector.proofs.Bytes.{shifted-byte}
-use Rattle.summary.specs.Page.{fit_at, bytes_of}
-use Rattle.summary.proofs.Sectors.{summary-length, summary-at}
+use Rattle.summary.specs.Page.{fit_at, fits_of, bytes_of}
+use Rattle.summary.proofs.Sectors.{summary-length, summary-at, summary-exact}
+use Rattle.verdict.specs.Sectors.{entry, refit_at, refit_of}
 
 -- the way back, one difference at a time
 regroup : (u o m bv x y b : ℕ) → (u + bv) % 256 ≡ x → (x + m) % 256 ≡ y → (y + o) % 256 ≡ b → b ≡ (u + o + m + bv) % 256
@@ -43,3 +46,13 @@ module _ (number : ℕ) (stored : List ℕ) (hp : length stored ≡ 4096) where
             subst (λ (n : ℕ). get_or (bytes_of number stored) n 0 < 256) e
             (subst (λ (v : ℕ). v < 256) (sym at) (shifted-byte (get_or stored (s * 512 + i) 0) (offset_of number s) i step));
       }
+
+  -- of a fresh summary the fits of the answer are the scan's own
+  refit-at : (s : ℕ) → s < 8 → refit_at (fits_of number stored) (bytes_of number stored) s ≡ fit_at number stored s
+  refit-at s h =
+      let e : entry (fits_of number stored) s ≡ fit_at number stored s = each_at (fit_at number stored) 8 s blank_fit h in
+      λ i. record { step = (e i).step; peak = (e i).peak; runner_up = (e i).runner_up; exact = summary-exact number stored hp s h i; tied = (e i).tied }
+
+  pub refit-fresh : refit_of (fits_of number stored) (bytes_of number stored) ≡ fits_of number stored
+  unfolding refit_of
+  refit-fresh = each-ext (refit_at (fits_of number stored) (bytes_of number stored)) (fit_at number stored) 8 refit-at

@@ -16,9 +16,8 @@ use Rattle.lists.proofs.Keep.{keep-among}
 use Rattle.votes.specs.Votes.{counts_of, ballots, top_of, is_common, is_candidate, candidate_of, candidates_below, listed, assessment_of}
 use Rattle.votes.specs.declared.Candidate.{Candidate}
 use Rattle.votes.specs.declared.Assessment.{Assessment}
-use Rattle.votes.specs.CountTables.{key_at}
 use Rattle.votes.proofs.Eight.{table-whole}
-use Rattle.votes.proofs.Keys.{top-met}
+use Rattle.votes.proofs.Keys.{key_at, top-met}
 use Rattle.votes.proofs.Meaning.{top_byte, top_common}
 use Rattle.groups.specs.declared.Group.TheVariants.{Only}
 use Rattle.groups.specs.Groups.{first_of, belongs}

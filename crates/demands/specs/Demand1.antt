@@ -61,15 +61,14 @@ pub record Answered : Type 0 where
   pub counted :
       (lim number : ℕ) (plain : List ℕ) (lenient : Bool)
       → OneOf (parse_lines lim number plain) (rows_counted_of lim number plain lenient).answer
-  -- `choose_bv`, `supplied_bv`, by fits that tell which sectors are exact: Exactness
+  -- `choose_bv`, `supplied_bv`
   pub choice :
       (number : ℕ) (shifted anchors : List ℕ) (n : ℕ) (o : Options)
       → OneOf (choice_lines o.search_limit number shifted) (choice_of number shifted anchors n o).answer
   pub support :
       (number bv : ℕ) (shifted : List ℕ) (n : ℕ) (o : Options)
       → OneOf (support_lines o.search_limit number bv shifted) (supplied_of number bv shifted n o).answer
-  -- `decide` and `decide_supplied` of `verdict`, and by such fits `decide_scanned` and `decide_supplied_scanned`: what was found of the page's integrity is passed
-  -- on where it refuses
+  -- `decide` and `decide_supplied` of `verdict`: what was found of the page's integrity is passed on where it refuses
   pub verdict :
       (number : ℕ) (x : Answer) (n : ℕ) (fits : List Fit) (shifted anchors : List ℕ) (o : Options)
       → integrity_refuses x o ≡ false
@@ -146,7 +145,7 @@ pub record Refused : Type 0 where
       → is_accepted (row_answer_of lim number plain lenient r) ≡ false
       → row_of lim plain lenient r ≡ NoRow
   -- "every refusal gives the empty part", "at 0"
-  pub part : (s p : Bor (List ℕ)) → IsPart s p NoRow → (p.ref_ptr ≡ s.ptr) × (p.now ≡ [])
+  pub part : (s p : Bor (List ℕ)) → IsPart s p NoRow → (p.ref_ptr ≡ s.ref_ptr) × (p.now ≡ [])
   pub counted :
       (lim number : ℕ) (plain : List ℕ) (lenient : Bool)
       → is_accepted (rows_counted_of lim number plain lenient).answer ≡ false

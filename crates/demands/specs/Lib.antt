@@ -2,7 +2,6 @@
 -- Demand 1, of the entries, of the program's lines and of the functions for C
 pub mod Told
 pub mod Demand1
-pub mod Exactness
 pub mod Replies
 pub mod CallsFromC
 pub mod Limits

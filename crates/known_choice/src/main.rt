@@ -9,7 +9,6 @@ ghost use Rattle.std.specs.Prelude.{◌≡◌, length};
 use answers::Options;
 use choice::Choice;
 use libc::STDOUT_FILENO;
-use sector::Fit;
 
 fn main() {
     ambiguous();
@@ -80,27 +79,7 @@ fn choose(page: &[u8], limit: usize) {
     }
     let none = [0u8; 1];
     let options = Options::new(0, Options::MIN_TRAILER_COUNT, limit);
-    let fits = all_but_sector_1();
-    marks(choice::choose_bv(1, fits, &page[0..4080], &none[0..0], 4, options));
-}
-
-// Fits that tell which sectors are exact, and no more.
-fn all_but_sector_1() -> [Fit; 8] {
-    let exact = Fit {
-        step: 0,
-        peak: 0,
-        runner_up: 0,
-        exact: true,
-        tied: 0,
-    };
-    let other = Fit {
-        step: 0,
-        peak: 0,
-        runner_up: 0,
-        exact: false,
-        tied: 0,
-    };
-    [exact, other, exact, exact, exact, exact, exact, exact]
+    marks(choice::choose_bv(1, &page[0..4080], &none[0..0], 4, options));
 }
 
 // An all-zero page is accepted at each limit in the range (accepted, unallocated, unallocated), and at no other (20, no source, no confidence).

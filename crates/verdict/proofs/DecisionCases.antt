@@ -1,12 +1,14 @@
 -- The cases of a decision, one law to a case, its premises in the order of the tests. Assumes nothing.
 use Prim.Native.Nat.{ℕ, ◌≤◌, ◌<◌}
-use mathlib.Core.Path.{◌≡◌, refl, ◌∙◌}
+use mathlib.Core.Path.{◌≡◌, refl, ap, ◌∙◌}
 use mathlib.Core.Bool.{Bool, true, false, not}
 use mathlib.Core.List.{List}
+use native.Mathlib.Decide.{ℕ_discrete}
 use borrow.Author.Tests.{lt-ltb, le-ltb}
+use lib.ListN.{length}
 use Rattle.lists.specs.Cases.{pick}
 use Rattle.lists.proofs.Picks.{never_both}
-use Rattle.answers.specs.Answers.{is_accepted}
+use Rattle.answers.specs.Answers.{is_accepted, no_bvs}
 use Rattle.answers.specs.Settings.{keystream, integrity}
 use Rattle.answers.specs.Warns.{no_warnings}
 use Rattle.answers.specs.declared.kinds.Answer.{Answer}
@@ -15,10 +17,8 @@ use Rattle.answers.specs.declared.notices.Warnings.{Warnings}
 use Rattle.answers.specs.declared.settings.Options.{Options}
 use Rattle.sector.specs.declared.fits.Fit.{Fit}
 use Rattle.choice.specs.declared.Choice.{Choice}
-use Rattle.choice.specs.Rules.{choice_of}
-use Rattle.choice.specs.Told.{told_choice}
+use Rattle.choice.specs.Rules.{refused_of, choice_of}
 use Rattle.verdict.specs.Sectors.{entry, refit_of, first_weak, sector_warnings}
-use Rattle.verdict.specs.Told.{told_verdict}
 use Rattle.verdict.specs.Verdict.{refused_with, refusal, warning_noted, sectors_decide, settled_of, integrity_refuses, integrity_warning, verdict_by}
 
 -- ---- the sectors
@@ -57,6 +57,19 @@ pub settled-lenient :
 settled-lenient number lenient fits c ws h l =
     settled-taken number lenient fits c ws h ∙ sectors-lenient number lenient fits c (warning_noted number c.warned ws) l
 
+-- a choice that is taken has 4,080 shifted bytes before it
+pub taken-sized :
+    (xs : List ℕ) (c : Choice)
+    → ((length xs ≡ 4080 → ⊥) → c ≡ refused_of (answer.WrongBufferLength (length xs)) no_bvs)
+    → is_accepted c.answer ≡ true
+    → length xs ≡ 4080
+unfolding refused_of
+taken-sized xs c f h = go (ℕ_discrete (length xs) 4080)
+  where
+    go : Dec (length xs ≡ 4080) → length xs ≡ 4080
+    go (yes e) = e
+    go (no n) = absurd (never_both (ap (λ (q : Choice). is_accepted q.answer) (f n)) h)
+
 -- ---- integrity
 
 module _ (number : ℕ) (x : Answer) (n : ℕ) (fits : List Fit) (xs anchors : List ℕ) (o : Options) where
@@ -70,18 +83,6 @@ module _ (number : ℕ) (x : Answer) (n : ℕ) (fits : List Fit) (xs anchors : L
       ≡ settled_of number (keystream o) (refit_of fits xs) (choice_of number xs anchors n o) (warning_noted number (integrity_warning x) no_warnings)
   unfolding verdict_by
   verdict-settled h = rw h
-
-  -- by fits that tell which sectors are exact
-  pub told-refused : integrity_refuses x o ≡ true → told_verdict number x n fits xs anchors o ≡ refusal x
-  unfolding told_verdict
-  told-refused h = rw h
-
-  pub told-settled :
-      integrity_refuses x o ≡ false
-      → told_verdict number x n fits xs anchors o
-      ≡ settled_of number (keystream o) fits (told_choice number fits xs anchors n o) (warning_noted number (integrity_warning x) no_warnings)
-  unfolding told_verdict
-  told-settled h = rw h
 
 -- what integrity refuses was not accepted
 pub refuses-refused : (x : Answer) (o : Options) → integrity_refuses x o ≡ true → is_accepted x ≡ false

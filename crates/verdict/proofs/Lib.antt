@@ -1,4 +1,3 @@
--- Laws of what is decided of a page: its sectors, the cases of a decision, and fits that tell which sectors are exact.
+-- Laws of what is decided of a page: its sectors, and the cases of a decision.
 pub mod WeakSectors
 pub mod DecisionCases
-pub mod Truth

@@ -1,6 +1,6 @@
 // What is decided of a page: document 01, "Answer numbers"; the decisions of `deobfuscate`, `deobfuscate_with_bv` and `finish` in the original's ap.rs. A page
 // that was written is judged by its integrity, then by the choice of bv, then by its sectors. Nothing is written here: what `out` holds follows from the
-// decision, in the crate `decode`. Exactness is seen in the shifted bytes, which a lent summary's fits may not agree with; a page's own scan has seen it.
+// decision, in the crate `decode`. Exactness is seen in the shifted bytes, which a lent summary's fits may not agree with.
 #![tactic(auto)]
 
 mod decisions;
@@ -10,7 +10,7 @@ mod sectors;
 
 use answers::Warnings;
 use choice::Choice;
-pub use decisions::{decide, decide_scanned, decide_supplied, decide_supplied_scanned};
+pub use decisions::{decide, decide_supplied};
 pub use integrity::is_refused;
 pub use results::{refused, unallocated};
 use sector::Fit;

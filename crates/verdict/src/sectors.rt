@@ -1,8 +1,8 @@
 // The fits of a decoding, and what becomes of a sector whose step is in doubt.
-ghost use Rattle.std.specs.Prelude.{◌≡◌};
-ghost use Rattle.verdict.specs.Sectors.{first_weak, sector_warnings};
+ghost use Rattle.std.specs.Prelude.{◌≡◌, true, length};
+ghost use Rattle.answers.specs.Answers.{is_accepted};
+ghost use Rattle.verdict.specs.Sectors.{refit_of, first_weak, sector_warnings};
 ghost use Rattle.verdict.specs.Verdict.{warning_noted, sectors_decide, settled_of};
-ghost use Rattle.verdict.specs.Told.{refitted};
 
 use crate::Decoding;
 use crate::results::{refused, refused_with};
@@ -15,10 +15,12 @@ pub(crate) fn settle(
     number: u64,
     lenient: bool,
     fits: [Fit; 8],
+    shifted: &[u8],
     choice: Choice,
     warnings: Warnings,
 ) -> Decoding
-    ensures { result ≡ settled_of number lenient fits choice warnings }
+    requires { is_accepted choice.answer ≡ true → length shifted.now ≡ 4080 }
+    ensures { result ≡ settled_of number lenient (refit_of fits shifted.now) choice warnings }
 {
     let answer = choice.answer;
     if !answer.accepted() {
@@ -26,7 +28,7 @@ pub(crate) fn settle(
     }
     let warned = choice.warned;
     let before = note(number, warned, warnings);
-    by_sectors(number, lenient, fits, choice, before)
+    by_sectors(number, lenient, refit(fits, shifted), choice, before)
 }
 
 // The warning, if it is one.
@@ -73,13 +75,11 @@ fn by_sectors(
     }
 }
 
-// The fits, each exact if its shifted bytes are all equal; of another number of bytes as they are.
-pub(crate) fn refit(fits: [Fit; 8], shifted: &[u8]) -> [Fit; 8]
-    ensures { result ≡ refitted fits shifted.now }
+// The fits, each exact if its shifted bytes are all equal.
+fn refit(fits: [Fit; 8], shifted: &[u8]) -> [Fit; 8]
+    requires { length shifted.now ≡ 4080 }
+    ensures { result ≡ refit_of fits shifted.now }
 {
-    if shifted.len() != 4080 {
-        return fits;
-    }
     let mut made = Fit::blanks();
     let mut s: usize = 0;
     while s < 8 {

@@ -25,10 +25,9 @@ use Rattle.summary.proofs.Parts.{part_length, part_at}
 use Rattle.votes.specs.declared.Candidate.{Candidate}
 use Rattle.votes.specs.declared.Candidates.{Candidates}
 use Rattle.votes.specs.Votes.{counts_of, ballots, beats, is_common, is_candidate, candidate_of, candidates_below, places, blank_candidate, candidate_at, listed, assessment_of}
-use Rattle.votes.specs.CountTables.{key_at}
 use Rattle.votes.specs.Eight.{bvs_in, HasEach, AtMostEight}
 use Rattle.votes.proofs.Tests.{lt-cases}
-use Rattle.votes.proofs.Keys.{beats-key, many-beat}
+use Rattle.votes.proofs.Keys.{key_at, beats-key, many-beat}
 use Rattle.votes.proofs.CandidateTable.{Holds, holds-listed, tabled-holds}
 use Rattle.votes.proofs.Meaning.{Rises, candidates-rise, candidates-just, counts-at}
 

@@ -22,10 +22,9 @@ use Rattle.lists.proofs.Many.{many-zero}
 use Rattle.lists.proofs.Greatest.{greatest-above}
 use Rattle.votes.specs.declared.Candidate.{Candidate}
 use Rattle.votes.specs.Votes.{counts_of, ballots, beats, top_of, is_common, is_candidate, candidate_of, candidates_below}
-use Rattle.votes.specs.CountTables.{key_at}
 use Rattle.votes.specs.Eight.{bvs_in}
 use Rattle.votes.proofs.Tests.{lt-cases}
-use Rattle.votes.proofs.Keys.{beats-key, top-met}
+use Rattle.votes.proofs.Keys.{key_at, beats-key, top-met}
 
 -- numbers below n in ascending order, each once
 pub record Rises (n : ℕ) (l : List ℕ) : Type 0 where

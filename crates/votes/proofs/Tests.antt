@@ -1,12 +1,11 @@
 -- Laws of tests on numbers. Assumes nothing.
-use Prim.Native.Nat.{ℕ, ◌+◌, ◌≤◌, ◌<◌, max, min}
+use Prim.Native.Nat.{ℕ, ◌+◌, ◌-◌, ◌≤◌, ◌<◌, max, min}
 use mathlib.Core.Path.{◌≡◌, refl, sym, ap, ◌∙◌}
 use mathlib.Core.Bool.{Bool, true, false}
 use native.Mathlib.Omega.{arith}
 use borrow.Author.Tests.{lt-ltb, le-ltb, ltb-true, ltb-false}
 use lib.Dec.{ltb}
 use Rattle.lists.specs.Cases.{flag}
-use Rattle.votes.specs.CountTables.{below}
 
 -- of two numbers the first is the smaller, or it is not
 pub lt-cases : (P : Type 0) (a b : ℕ) → (a < b → P) → (b ≤ a → P) → P
@@ -20,7 +19,10 @@ lt-cases P a b f g = go (ltb a b) refl
 pub same-ltb : (a b c d : ℕ) → (a < b → c < d) → (b ≤ a → d ≤ c) → ltb a b ≡ ltb c d
 same-ltb a b c d f g = lt-cases (ltb a b ≡ ltb c d) a b (λ h. lt-ltb a b h ∙ sym (lt-ltb c d (f h))) (λ h. le-ltb a b h ∙ sym (le-ltb c d (g h)))
 
--- of the greater and the lesser of two numbers x is below as many as of the two
+-- whether x is below a number, as a number: of the greater and the lesser of two it is what it is of the two
+abbrev pub below : ℕ → ℕ → ℕ
+below x y = flag (ltb x y)
+
 module _ (x : ℕ) where
   pub below-yes : (y : ℕ) → x < y → below x y ≡ 1
   below-yes y h = ap flag (lt-ltb x y h)
@@ -46,3 +48,7 @@ module _ (x : ℕ) where
           let p : max y z ≡ y = omega arith in
           let q : min y z ≡ z = omega arith in
           omega (arith, ap (below x) p, ap (below x) q)
+
+-- a turn less is left
+pub fewer : (n k : ℕ) → k < n → n - (k + 1) < n - k
+fewer n k h = omega arith

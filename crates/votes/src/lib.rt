@@ -1,18 +1,17 @@
 // What speaks for each value of bv: the votes of exact sectors, the counts of the shifted bytes, the row-count test, anchors. Document 01,
-// "Choosing bv"; `assess` of the original's ap.rs. Of 256 values few are common or voted for: the four commonest and the candidates are looked for in blocks of
-// sixteen values, and most blocks are passed over. No plaintext is made to test a candidate.
+// "Choosing bv"; `assess` of the original's ap.rs. It counts bytes in four tables at once, since a count that follows itself waits for the store
+// before it, and finds the four commonest values in one pass. No plaintext is made to test a candidate.
 #![tactic(auto)]
 
 mod commonest;
+mod counts;
 mod listing;
 mod polls;
 
 ghost use Rattle.std.specs.Prelude.{◌≡◌};
-ghost use Rattle.votes.specs.Votes.{no_candidates, with_candidate};
-ghost use Rattle.votes.specs.Told.{told_assessed};
+ghost use Rattle.votes.specs.Votes.{no_candidates, with_candidate, assessed};
 
 pub use polls::{Poll, votes_for};
-use sector::Fit;
 
 // A value that bv may have, and what speaks for it.
 #[derive(Drop)]
@@ -24,7 +23,7 @@ pub struct Candidate {
     pub anchored: bool,
 }
 
-// The candidates, ascending. Where the fits tell the truth, no 4,080 bytes have more than eight: `votes/Eight.at-most-eight`.
+// The candidates, ascending. No 4,080 bytes have more than eight: `votes/Eight.at-most-eight`.
 #[derive(Drop)]
 pub struct Candidates {
     pub items: [Candidate; 8],
@@ -39,17 +38,9 @@ pub struct Assessment {
     pub top: u8,
 }
 
-// The assessment of a page's shifted bytes, where the fits tell which sectors are exact, with the search limit, the stored row count n and T; of another
-// number of bytes an empty one.
-pub fn assess(
-    shifted: &[u8],
-    fits: [Fit; 8],
-    anchors: &[u8],
-    limit: usize,
-    n: u8,
-    t: u8,
-) -> Assessment
-    ensures { result ≡ told_assessed fits limit shifted.now anchors.now n t }
+// The assessment of a page's shifted bytes, with the search limit, the stored row count n and T; of another number of bytes an empty one.
+pub fn assess(shifted: &[u8], anchors: &[u8], limit: usize, n: u8, t: u8) -> Assessment
+    ensures { result ≡ assessed limit shifted.now anchors.now n t }
 {
     if shifted.len() != 4080 {
         let none = Candidates::none();
@@ -59,9 +50,9 @@ pub fn assess(
             top: 0,
         };
     }
-    let tally = census::count_page(shifted, fits);
-    let counts = tally.counts;
-    let votes = tally.votes;
+    let counts = counts::value_counts(shifted);
+    let ballots = polls::exact_votes(shifted);
+    let votes = ballots.votes;
     let leaders = commonest::leaders(&counts);
     let candidates = listing::candidates(
         shifted,
@@ -75,7 +66,7 @@ pub fn assess(
     );
     Assessment {
         candidates,
-        total: tally.total,
+        total: ballots.total,
         top: leaders.top,
     }
 }

@@ -1,14 +1,13 @@
 // The candidates for bv, ascending.
-ghost use Rattle.std.specs.Prelude.{◌+◌, ◌≤◌, ◌≡◌};
+ghost use Rattle.std.specs.Prelude.{◌≡◌, ◌&&◌, ◌||◌, ltb, leb};
 ghost use Rattle.lists.specs.Counts.{is_in};
-ghost use Rattle.votes.specs.Votes.{is_verified, tabled};
-ghost use Rattle.votes.specs.CountTables.{most_in, passes, Assesses};
-ghost use Rattle.votes.specs.Told.{candidates_from};
+ghost use Rattle.votes.specs.Votes.{is_verified, candidates_below, tabled};
+ghost use Rattle.votes.specs.CountTables.{key_of, Assesses};
 
-use crate::commonest::{greatest_of, key};
+use crate::commonest::key;
 use crate::{Candidate, Candidates};
 
-// `fourth` is the key of the fourth commonest value, or 255 where fewer occur. By blocks of 16 values, of which most have no vote and no count that reaches the fourth's.
+// `counts` and `votes` are those of the shifted bytes, and `fourth` is the key of the fourth commonest value.
 pub(crate) fn candidates(
     shifted: &[u8],
     anchors: &[u8],
@@ -19,54 +18,12 @@ pub(crate) fn candidates(
     votes: &[u16],
     fourth: u32,
 ) -> Candidates
-    requires { Assesses counts.now votes.now fourth }
-    ensures { result
-        ≡ tabled (candidates_from counts.now votes.now limit shifted.now anchors.now n t 256) }
+    requires { Assesses shifted.now counts.now votes.now fourth }
+    ensures { result ≡ tabled (candidates_below limit shifted.now anchors.now n t 256) }
 {
     let mut found = Candidates::none();
-    let mut at: usize = 0;
-    while at < 256 {
-        if may_have_candidate(&counts[at..at + 16], &votes[at..at + 16], fourth) {
-            found = with_block(
-                found, at, counts, votes, fourth, shifted, anchors, limit, n, t,
-            );
-        }
-        at += 16;
-    }
-    found
-}
-
-// Whether the value 0 would be a candidate with the greatest count and the most votes of a block: if not, none of its values is.
-fn may_have_candidate(counts: &[u16], votes: &[u16], fourth: u32) -> bool
-    ensures { result ≡ passes (most_in counts.now) (most_in votes.now) 0 fourth }
-{
-    if 0 < greatest_of(votes) {
-        return true;
-    }
-    is_candidate(greatest_of(counts), 0, 0, fourth)
-}
-
-// The candidates below `at`, and those of the 16 values from there on.
-fn with_block(
-    before: Candidates,
-    at: usize,
-    counts: &[u16],
-    votes: &[u16],
-    fourth: u32,
-    shifted: &[u8],
-    anchors: &[u8],
-    limit: usize,
-    n: u8,
-    t: u8,
-) -> Candidates
-    requires { Assesses counts.now votes.now fourth × (at + 16 ≤ 256)
-        × (before ≡ tabled (candidates_from counts.now votes.now limit shifted.now anchors.now n t at)) }
-    ensures { result
-        ≡ tabled (candidates_from counts.now votes.now limit shifted.now anchors.now n t (at + 16)) }
-{
-    let mut found = before;
-    let mut v = at;
-    while v < at + 16 {
+    let mut v: usize = 0;
+    while v < 256 {
         let bv = v as u8;
         let zeros = counts[v];
         let votes = votes[v];
@@ -88,7 +45,7 @@ fn with_block(
 
 // Voted for, or one of the four commonest values that occur (the original's HISTOGRAM_CANDIDATES).
 fn is_candidate(zeros: u16, votes: u16, v: u8, fourth: u32) -> bool
-    ensures { result ≡ passes zeros votes v fourth }
+    ensures { result ≡ (ltb 0 votes || (ltb 0 zeros && leb fourth (key_of zeros v))) }
 {
     if 0 < votes {
         return true;

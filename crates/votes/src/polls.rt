@@ -1,9 +1,9 @@
-// The votes for a bv that is supplied.
-ghost use Rattle.std.specs.Prelude.{◌≡◌};
-ghost use Rattle.votes.specs.Told.{told_poll};
+// The votes of the exact sectors.
+ghost use Rattle.std.specs.Prelude.{◌≡◌, length};
+ghost use Rattle.votes.specs.Votes.{poll_of};
+ghost use Rattle.votes.specs.CountTables.{ballots_of};
 
-use numbers::bit;
-use sector::Fit;
+use numbers::wide;
 
 // The votes for one value, and all votes.
 #[derive(Drop)]
@@ -12,23 +12,46 @@ pub struct Poll {
     pub total: u16,
 }
 
-// Each sector that its fit tells to be exact votes for its first shifted byte; shifted bytes that are not 4,080 have no votes.
-pub fn votes_for(shifted: &[u8], fits: [Fit; 8], bv: u8) -> Poll
-    ensures { result ≡ told_poll fits shifted.now bv }
+// How many votes each value has, and how many there are.
+#[derive(Drop)]
+pub struct Ballots {
+    pub votes: [u16; 256],
+    pub total: u16,
+}
+
+// The votes for a bv that is supplied; shifted bytes that are not 4,080 have none.
+pub fn votes_for(shifted: &[u8], bv: u8) -> Poll
+    ensures { result ≡ poll_of shifted.now bv }
 {
-    let mut votes: u16 = 0;
-    let mut total: u16 = 0;
     if shifted.len() != 4080 {
-        return Poll { votes, total };
+        return Poll { votes: 0, total: 0 };
     }
+    let ballots = exact_votes(shifted);
+    let votes = ballots.votes;
+    let at = wide(bv);
+    Poll {
+        votes: votes[at],
+        total: ballots.total,
+    }
+}
+
+// Each exact sector votes for its shifted value.
+pub(crate) fn exact_votes(shifted: &[u8]) -> Ballots
+    requires { length shifted.now ≡ 4080 }
+    ensures { result ≡ ballots_of shifted.now }
+{
+    let mut votes = [0u16; 256];
+    let mut total: u16 = 0;
     let mut s: usize = 0;
     while s < 8 {
-        let fit = fits[s];
-        if fit.exact {
-            votes += bit(bv == shifted[s * 512]) as u16;
+        let start = s * 512;
+        let end = summary::sector_end(s);
+        if sector::all_same(&shifted[start..end]) {
+            let v = wide(shifted[start]);
+            votes[v] = votes[v] + 1;
             total += 1;
         }
         s += 1;
     }
-    Poll { votes, total }
+    Ballots { votes, total }
 }

@@ -1,29 +1,26 @@
 -- The parts of the assessment, each by its function's promise.
-use Rattle.votes.proofs.Assessments.{counts-long, assesses-made, assessment-made, assessed-not}
+use mathlib.Core.Path.{sym, ◌∙◌}
+use Rattle.votes.proofs.Assessments.{assesses-made, assessed-not, assessed-is, assessment-made}
 use borrow.Author.Rules.{rules}
 use Rattle.votes.proofs.assess.Statement.{statement}
 use Rattle.votes.proofs.assess.Tie as tie
 
 returns : tie.Need-returns
-returns c = rw c.none.ensures (assessed-not _ _ _ _ _ _ (search rules))
-
-leaders-requires : tie.Need-leaders-requires
-leaders-requires c κs =
-    let t = c.before.before.before.count-page in
-    counts-long _ _ t.result (search rules) t.ensures
+returns c = sym (assessed-not _ _ _ _ _ (search rules) ∙ rw c.none.ensures)
 
 candidates-requires : tie.Need-candidates-requires
 candidates-requires c κs =
     let l = c.before.before in
-    let t = l.before.before.before.before.count-page in
-    assesses-made _ _ t.result (search rules) t.ensures l.leaders.result l.leaders.ensures
+    let e = l.before.before.before in
+    assesses-made _ _ _ l.leaders.result e.before.value-counts.ensures e.exact-votes.ensures l.leaders.ensures
 
 returns-2 : tie.Need-returns-2
 returns-2 c =
     let l = c.before.before.before in
-    let t = l.before.before.before.before.count-page in
-    let a = l.before.before.before.before.before.before.before.before.args in
-    assessment-made a.fits a.shifted.now t.result (search rules) t.ensures a.limit a.anchors.now a.n a.t _ _ l.leaders.ensures.top c.candidates.ensures
+    let e = l.before.before.before in
+    let a = e.before.before.before.before.before.args in
+    assessment-made a.limit a.shifted.now a.anchors.now a.n a.t _ e.exact-votes.result _ _ e.before.value-counts.ensures e.exact-votes.ensures l.leaders.ensures.top c.candidates.ensures
+    ∙ sym (assessed-is _ _ _ _ _ (search rules))
 
 pub assess-spec : {M : Type 1} → statement M
 assess-spec =
@@ -32,8 +29,9 @@ assess-spec =
     (λ c κs. search rules)
     returns
     (λ c κs. search rules)
+    (λ c κs. search rules)
     (λ c. search rules)
-    leaders-requires
+    (λ c κs. search rules)
     (λ c. search rules)
     (λ c. search rules)
     candidates-requires

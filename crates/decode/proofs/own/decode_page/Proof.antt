@@ -8,9 +8,8 @@ use Rattle.page.specs.Trailer.{row_count_of}
 use Rattle.summary.specs.Page.{fits_of, bytes_of}
 use Rattle.summary.specs.declared.pages.PageScan.{PageScan}
 use Rattle.summary.proofs.Replacements.{fresh-scan}
-use Rattle.verdict.specs.Told.{told_verdict}
+use Rattle.verdict.specs.Verdict.{verdict_by}
 use Rattle.verdict.proofs.DecisionCases.{verdict-refused, refuses-refused}
-use Rattle.verdict.proofs.Truth.{own-verdict}
 use Rattle.decode.specs.Decode.{delivered_of, decoding_of}
 use Rattle.decode.proofs.EntryCases.{entry-ok, entry-right, own-entry, verdict-written, ends-entry, ends-zeros, ends-refused, ends-page}
 use Rattle.decode.proofs.own.decode_page.Statement.{statement}
@@ -64,8 +63,8 @@ returns-3 c =
     ∙ verdict-refused a.number found.result (row_count_of stored) fits xs a.anchors.now a.options h in
     ends-refused _ stored xs out lim ok z found.result c.refused2.result (refuses-refused found.result a.options h) e c.refused2.ensures
 
-shared-slice-read-decide-scanned : tie.Need-shared-slice-read-decide-scanned
-shared-slice-read-decide-scanned c =
+shared-slice-read-decide : tie.Need-shared-slice-read-decide
+shared-slice-read-decide c =
     let a = c.before.before.before.before.before.before.before.before.before.before.before.before.before.before.before.before.before.args in
     let stored = a.stored.now in
     let out = a.out.now in
@@ -109,12 +108,11 @@ returns-4 c =
     let bytes = s.ensures.1 ∙ f.bytes in
     let z = sym c.before.before.before.before.before.before.before.before.before.before.before.before.before.before.before.before.before.is-unallocated.ensures ∙ c.before.before.before.before.before.before.before.before.before.before.before.before.before.before.before.before.if2.false in
     let found = c.before.before.before.before.before.before.before.before.before.before.before.before.before.before.before.check-written in
-    let v = c.before.before.before.before.before.decide-scanned in
+    let v = c.before.before.before.before.before.decide in
     let d = c.before.before.deliver in
     let q =
     v.ensures
-    ∙ ap₂ (λ (g : List Fit) (l : List ℕ). told_verdict a.number found.result (row_count_of stored) g l a.anchors.now a.options) fits bytes
-    ∙ own-verdict a.number (row_count_of stored) stored n.0 a.options found.result a.anchors.now
+    ∙ ap₂ (λ (g : List Fit) (l : List ℕ). verdict_by a.number found.result (row_count_of stored) g l a.anchors.now a.options) fits bytes
     ∙ verdict-written a.number stored (fits_of a.number stored) xs a.anchors.now a.options found.result z found.ensures in
     ends-page _ stored xs out lim ok z v.result _ q (d.ensures ∙ ap₂ (λ (u : Decoding) (l : List ℕ). delivered_of u.choice stored l out) q bytes)
 
@@ -138,7 +136,7 @@ decode-page-spec =
     (λ c κs. search rules)
     (λ c. search rules)
     (λ c κs. search rules)
-    shared-slice-read-decide-scanned
+    shared-slice-read-decide
     (λ c. search rules)
     (λ c κs. search rules)
     (λ c. search rules)

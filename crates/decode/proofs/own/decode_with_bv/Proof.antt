@@ -8,8 +8,7 @@ use Rattle.page.specs.Trailer.{row_count_of}
 use Rattle.summary.specs.Page.{bytes_of}
 use Rattle.summary.specs.declared.pages.PageScan.{PageScan}
 use Rattle.summary.proofs.Replacements.{fresh-scan}
-use Rattle.verdict.specs.Told.{told_supplied_verdict}
-use Rattle.verdict.proofs.Truth.{own-supplied-verdict}
+use Rattle.verdict.specs.Verdict.{supplied_verdict}
 use Rattle.decode.specs.Decode.{delivered_of, supplied_decoding_of}
 use Rattle.decode.proofs.EntryCases.{entry-ok, entry-right, own-entry, ends-entry, ends-zeros, ends-page}
 use Rattle.decode.proofs.own.decode_with_bv.Statement.{statement}
@@ -43,8 +42,8 @@ returns-2 c =
     let e = ends-zeros _ stored xs out lim ok z c.unallocated.result c.unallocated.ensures in
     (e.0, c.before.before.before.copy.ensures ∙ copied-same stored out (n.0 ∙ sym n.1) ∙ e.1)
 
-shared-slice-read-decide-supplied-scanned : tie.Need-shared-slice-read-decide-supplied-scanned
-shared-slice-read-decide-supplied-scanned c =
+shared-slice-read-decide-supplied : tie.Need-shared-slice-read-decide-supplied
+shared-slice-read-decide-supplied c =
     let a = c.before.before.before.before.before.before.before.before.before.before.before.before.before.args in
     let stored = a.stored.now in
     let out = a.out.now in
@@ -87,12 +86,11 @@ returns-3 c =
     let fits = ap (λ (r : PageScan). r.fits) s.ensures.0 ∙ f.kept in
     let bytes = s.ensures.1 ∙ f.bytes in
     let z = sym c.before.before.before.before.before.before.before.before.before.before.before.before.before.before.is-unallocated.ensures ∙ c.before.before.before.before.before.before.before.before.before.before.before.before.before.if2.false in
-    let v = c.before.before.before.before.before.decide-supplied-scanned in
+    let v = c.before.before.before.before.before.decide-supplied in
     let d = c.before.before.deliver in
     let q =
     v.ensures
-    ∙ ap₂ (λ (g : List Fit) (l : List ℕ). told_supplied_verdict a.number a.bv (row_count_of stored) g l a.options) fits bytes
-    ∙ own-supplied-verdict a.number (row_count_of stored) stored n.0 a.options a.bv in
+    ∙ ap₂ (λ (g : List Fit) (l : List ℕ). supplied_verdict a.number a.bv (row_count_of stored) g l a.options) fits bytes in
     ends-page _ stored xs out lim ok z v.result _ q (d.ensures ∙ ap₂ (λ (u : Decoding) (l : List ℕ). delivered_of u.choice stored l out) q bytes)
 
 pub decode-with-bv-spec : {M : Type 1} → statement M
@@ -111,7 +109,7 @@ decode-with-bv-spec =
     (λ c κs. search rules)
     (λ c. search rules)
     (λ c κs. search rules)
-    shared-slice-read-decide-supplied-scanned
+    shared-slice-read-decide-supplied
     (λ c. search rules)
     (λ c κs. search rules)
     (λ c. search rules)

@@ -1,20 +1,24 @@
--- By fits that tell which sectors are exact.
-use mathlib.Core.Path.{ap, ◌∙◌}
-use mathlib.Core.List.{List}
-use Rattle.sector.specs.declared.fits.Fit.{Fit}
-use Rattle.verdict.specs.Told.{told_supplied_verdict}
-use Rattle.verdict.proofs.Truth.{told-supplied-verdict}
+-- What was settled. Assumes nothing.
+use mathlib.Core.Path.{◌∙◌}
+use Rattle.choice.proofs.ChoiceCases.{supplied-length}
+use Rattle.verdict.proofs.DecisionCases.{taken-sized}
 use borrow.Author.Rules.{rules}
 use Rattle.verdict.proofs.decisions.decide_supplied.Statement.{statement}
 use Rattle.verdict.proofs.decisions.decide_supplied.Tie as tie
 
+settle-requires : tie.Need-settle-requires
+settle-requires c κs =
+    let place = c.before.before.before in
+    let choice = place.supplied-bv in
+    taken-sized place.before.before.args.shifted.now choice.result (λ n. choice.ensures ∙ supplied-length _ _ _ _ _ n)
+
 returns : tie.Need-returns
 returns c =
-    let seen = c.before.refit in
-    let a = c.before.before.before.args in
-    c.decide-supplied-scanned.ensures
-    ∙ ap (λ (f : List Fit). told_supplied_verdict a.number a.bv a.n f a.shifted.now a.options) seen.ensures
-    ∙ told-supplied-verdict a.number a.n a.shifted.now a.options a.bv a.fits
+    let none = c.before in
+    let keystream = none.before in
+    c.settle.ensures ∙ rw (none.none.ensures, keystream.keystream.ensures, keystream.before.before.supplied-bv.ensures)
 
 pub decide-supplied-spec : {M : Type 1} → statement M
-decide-supplied-spec = tie.close (tie.spec (λ c κs. search rules) (λ c κs. search rules) returns)
+decide-supplied-spec =
+    tie.close
+    (tie.spec (λ c κs. search rules) (λ c κs. search rules) (λ c κs. search rules) settle-requires returns)

@@ -1,13 +1,13 @@
 -- `refit` meets its contract: the table is filled with the fits that have the exactness of their shifted bytes. Assumes nothing.
 use borrow.Author.Rules.{rules}
 use Prim.Native.Nat.{◌-◌}
-use mathlib.Core.Path.{◌≡◌, sym, ap, ◌∙◌}
+use mathlib.Core.Path.{◌≡◌, sym, ap}
 use native.Mathlib.Omega.{arith}
 use lib.ListN.{length}
 use Rattle.lists.proofs.Filled.{Filled, filled_none, filled_more, filled-all}
 use Rattle.sector.specs.declared.fits.Fit.{Fit}
 use Rattle.verdict.specs.Sectors.{entry, refit_at, refit_of}
-use Rattle.verdict.proofs.Truth.{exact-here, refitted-is, refitted-not}
+use Rattle.votes.proofs.Ballots.{exact-here}
 use Rattle.verdict.proofs.sectors.refit.Statement.{statement}
 use Rattle.verdict.proofs.sectors.refit.Tie as tie
 
@@ -23,7 +23,7 @@ loop-holds c = filled_none _ _ _ (ap length c.blanks.ensures)
 loop-again : tie.Need-loop-preserved invariant-loop decreases-loop
 loop-again c =
     let d = c.before.before.before in
-    let a = d.before.before.before.before.before.before.args in
+    let a = d.before.before.before.before.before.args in
     let l = d.before.before.loop in
     let kept : Fit = entry a.t1 l.s in
     let x = exact-here a.shifted.now l.s d.sector-end.result c.All-same.result d.sector-end.ensures c.All-same.ensures in
@@ -32,11 +32,8 @@ loop-again c =
     filled_more _ _ _ l.s f l.invariant (omega arith) e
 
 returns : tie.Need-returns invariant-loop decreases-loop
-returns c = refitted-not _ _ (search rules)
-
-returns-2 : tie.Need-returns-2 invariant-loop decreases-loop
 unfolding refit_of
-returns-2 c = filled-all _ _ _ c.before.loop.s c.before.loop.invariant (omega arith) ∙ refitted-is _ _ (search rules)
+returns c = filled-all _ _ _ c.before.loop.s c.before.loop.invariant (omega arith)
 
 pub refit-spec : {M : Type 1} → statement M
 refit-spec =
@@ -44,7 +41,6 @@ refit-spec =
     (tie.spec
     invariant-loop
     decreases-loop
-    returns
     (λ c κs. search rules)
     loop-holds
     (λ c. search rules)
@@ -60,4 +56,4 @@ refit-spec =
     (λ c. search rules)
     (λ c. search rules)
     loop-again
-    returns-2)
+    returns)

@@ -1,42 +1,48 @@
--- Block after block the four greatest keys are kept; a block with no key above the fourth changes nothing.
+-- The pass keeps the four greatest keys; the first is the top's, and the fourth tells the four commonest.
 use borrow.Author.Rules.{rules}
-use Prim.Native.Nat.{◌+◌, ◌-◌, ◌%◌, ◌≤◌}
-use mathlib.Core.Path.{◌≡◌, refl}
-use mathlib.Core.Logic.{⊎_elim}
+use Prim.Native.Nat.{ℕ, ◌-◌, ◌≤◌}
 use native.Mathlib.Omega.{arith}
-use Rattle.votes.specs.CountTables.{key_at, Heads}
-use Rattle.votes.proofs.Keys.{heads-none, heads-as, heads-block, heads-lead}
+use mathlib.Core.Path.{◌≡◌, ap, ◌∙◌, subst}
+use lib.Dec.{ltb}
+use Rattle.votes.proofs.Keys.{Four, key_at, four-none, four-more, four-as, four-reached, many-beat, top_key}
+use Rattle.votes.proofs.Tests.{fewer}
 use Rattle.votes.proofs.commonest.leaders.Statement.{statement}
 use Rattle.votes.proofs.commonest.leaders.Tie as tie
 
 abbrev invariant-loop : tie.invariant-loop
-invariant-loop counts four₀ at₀ four at = (at ≤ 256) × (at % 16 ≡ 0) × Heads (key_at counts) at four
+invariant-loop counts first₀ second₀ third₀ fourth₀ v₀ first second third fourth v = (v ≤ 256) × Four (key_at counts) v first second third fourth
 
 abbrev decreases-loop : tie.decreases-loop
-decreases-loop counts four₀ at₀ four at = 256 - at
+decreases-loop counts first₀ second₀ third₀ fourth₀ v₀ first second third fourth v = 256 - v
 
 loop-holds : tie.Need-loop-init invariant-loop decreases-loop
-loop-holds c = (search rules, refl, heads-none _)
+loop-holds c = (search rules, four-none _)
 
-with-block-requires : tie.Need-with-block-requires invariant-loop decreases-loop
-with-block-requires c κs = (search rules, omega arith, c.before.before.before.before.before.before.loop.invariant.2)
+loop-less : tie.Need-loop-smaller invariant-loop decreases-loop
+loop-less c = fewer 256 _ (search rules)
 
 loop-again : tie.Need-loop-preserved invariant-loop decreases-loop
 loop-again c =
-    let k = c.before.before in
-    let s = k.before.before.before.before in
-    let l = s.loop in
-    let t = s.before.before.args.counts.now in (
+    let g3 = c.before in
+    let g2 = g3.before.before in
+    let g = g2.before.before in
+    let k = g.before.before in
+    let l = k.before.before.before.loop in (
       omega arith,
-      omega arith,
-      ⊎_elim
-          (λ w. heads-as _ _ _ _ w.2 w.1.ensures)
-          (λ w. heads-as _ _ _ _ w.1 (heads-block t l.at (l.at + 16 - l.at) l.four (omega arith) (omega arith) l.invariant.2 (omega (arith, k.key.ensures, k.before.greatest-of.ensures))))
-          c.if1.branch,
+      four-as _ _ g.greater.ensures g2.greater2.ensures g3.greater3.ensures c.greater4.ensures
+          (four-more _ _ _ _ _ _ _ _ _ _ l.invariant.1 k.key.ensures g.before.lesser.ensures g2.before.lesser2.ensures g3.before.lesser3.ensures),
     )
 
 returns : tie.Need-returns invariant-loop decreases-loop
-returns c = let l = c.before.before.loop in heads-lead _ l.at l.four _ (omega arith) l.invariant.2 refl
+returns c =
+    let l = c.before.loop in
+    let t = c.before.before.before.args.counts.now in
+    let e : l.v ≡ 256 = omega arith in
+    let four = subst (λ (n : ℕ). Four (key_at t) n l.first l.second l.third l.fourth) e l.invariant.1 in
+    record {
+      top = top_key t l.first four.first;
+      fourth = λ v h. ap (λ (n : ℕ). ltb n 4) (many-beat t v h) ∙ four-reached (key_at t) 256 _ _ _ _ (key_at t v) four;
+    }
 
 pub leaders-spec : {M : Type 1} → statement M
 leaders-spec =
@@ -48,13 +54,16 @@ leaders-spec =
     (λ c. search rules)
     (λ c. search rules)
     (λ c. search rules)
-    (λ c. search rules)
-    (λ c. omega arith)
     (λ c κs. search rules)
     (λ c κs. search rules)
-    with-block-requires
+    (λ c κs. search rules)
+    (λ c κs. search rules)
+    (λ c κs. search rules)
+    (λ c κs. search rules)
+    (λ c κs. search rules)
+    (λ c κs. search rules)
     (λ c. search rules)
-    (λ c. omega arith)
+    loop-less
     loop-again
     (λ c. search rules)
     (λ c. search rules)

@@ -1,7 +1,7 @@
 -- The three cases of the test.
 use mathlib.Core.Path.{ap, ◌∙◌}
 use lib.Dec.{leb}
-use Rattle.votes.proofs.Search.{passes-voted, passes_none, passes-common}
+use Rattle.votes.proofs.Assessments.{passes-voted, passes_none, passes-common}
 use borrow.Author.Rules.{rules}
 use Rattle.votes.proofs.listing.is_candidate.Statement.{statement}
 use Rattle.votes.proofs.listing.is_candidate.Tie as tie
