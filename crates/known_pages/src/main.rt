@@ -9,28 +9,46 @@
 #![tactic(auto)]
 
 ghost use Rattle.std.specs.Prelude.{◌≤◌, ◌≡◌, length};
+ghost use Rattle.std.specs.Io.{ReadsAtMost};
 
 mod describe;
 mod show;
 
 use describe::{fill, number, patch};
-use libc::{STDIN_FILENO, STDOUT_FILENO};
+use std::io;
+use std::io::Read;
 
-fn main() {
-    show::type_bytes();
-    show::variants();
-    let mut text = io::large_buffer();
-    let n = io::read_full(STDIN_FILENO, &mut text);
-    take_lines(&text[..n]);
+fn main(rt: HostRuntime) -> io::Result<()> {
+    show::type_bytes(&rt)?;
+    show::variants(&rt)?;
+    let mut text = [0u8; 65536];
+    let n = read_full(&mut rt.stdin(), &mut text)?;
+    take_lines(&rt, &text[..n])
 }
 
-fn take_lines(text: &[u8]) {
+// Reads until the buffer is full or the input ends, and says how many bytes were put at its start.
+fn read_full(input: &mut impl Read, buffer: &mut [u8]) -> io::Result<usize>
+    ensures { ReadsAtMost result buffer.new }
+{
+    let mut done: usize = 0;
+    while done < buffer.len() {
+        let n = input.read(&mut buffer[done..])?;
+        if n == 0 {
+            break;
+        }
+        done += n;
+    }
+    Ok(done)
+}
+
+fn take_lines(rt: &impl Print, text: &[u8]) -> io::Result<()> {
     let mut at: usize = 0;
     while at < text.len() {
         let end = line_end(text, at);
-        take_line(&text[at..end]);
+        take_line(rt, &text[at..end])?;
         at = end + 1;
     }
+    Ok(())
 }
 
 // The place of the next newline, or of the end.
@@ -48,17 +66,16 @@ fn line_end(text: &[u8], from: usize) -> usize
     at
 }
 
-fn take_line(line: &[u8]) {
+fn take_line(rt: &impl Print, line: &[u8]) -> io::Result<()> {
     if line.len() == 0 {
-        return;
+        return Ok(());
     }
     if line[0] == b'#' {
-        io::write_all(STDOUT_FILENO, line);
-        io::write_all(STDOUT_FILENO, b"\n");
-        return;
+        rt.write_all(line)?;
+        return rt.write_all(b"\n");
     }
     let mut room = longest();
-    take_page(line, &mut room);
+    take_page(rt, line, &mut room)
 }
 
 // One byte more than a page has.
@@ -68,11 +85,12 @@ fn longest() -> [u8; 4097]
     [0u8; 4097]
 }
 
-fn take_page(line: &[u8], room: &mut [u8]) {
+fn take_page(rt: &impl Print, line: &[u8], room: &mut [u8]) -> io::Result<()> {
     fill(room, number(line, 22, 8));
     patch(line, 30, room);
     let len = number(line, 17, 4) as usize;
     if len <= room.len() {
-        show::findings(number(line, 0, 16), &room[..len]);
+        show::findings(rt, number(line, 0, 16), &room[..len])?;
     }
+    Ok(())
 }
