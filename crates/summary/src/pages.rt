@@ -6,7 +6,7 @@ use answers::Answer;
 use sector::Fit;
 
 // The answer, and the eight fits; of a refusal, eight blank ones.
-#[derive(Drop)]
+#[derive(Clone, Copy)]
 pub struct PageScan {
     pub answer: Answer,
     pub fits: [Fit; 8],

@@ -11,7 +11,7 @@ use answers::Answer;
 use sector::Fit;
 
 // The answer, and the eight fits with one place changed; of a refusal, those that were given.
-#[derive(Drop)]
+#[derive(Clone, Copy)]
 pub struct Changed {
     pub answer: Answer,
     pub fits: [Fit; 8],
