@@ -66,6 +66,9 @@ module _ (l : List ℕ) (i : ℕ) where
   unfolding line_end
   end_below h = omega (arith, up_le (drop i l), length-drop i l)
 
+-- what the loop of `newline_from` goes by
+pub ruleset line_ends = (end-here, end-past, end_none)
+
 -- one character more that is no newline
 pub up_more : (l : List ℕ) (i n : ℕ) → n ≤ up_to (drop i l) → i + n < length l → (get_or l (i + n) 0 ≡ 10 → ⊥) → n + 1 ≤ up_to (drop i l)
 unfolding line_end

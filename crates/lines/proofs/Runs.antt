@@ -135,7 +135,7 @@ module _ {reply : List ℕ → List ℕ} {kept : List ℕ} {sent : ℕ} (u : Und
       record {
         blocks = u.blocks ++ (block ∷ []);
         outs = u.outs ++ (p.out ∷ []);
-        run = λ later put r. rw (append_assoc, append_assoc) (u.run (block ∷ later) (p.out ∷ put) (Run.reads (Run.steps p.steps r)));
+        run = λ later put r. rw (append_assoc u.blocks (block ∷ []) later, append_assoc u.outs (p.out ∷ []) put) (u.run (block ∷ later) (p.out ∷ put) (Run.reads (Run.steps p.steps r)));
         count = put_count p.out sent' p.count;
       }
 

@@ -54,6 +54,7 @@ fn newline_flag(c: u8) -> u8
     0
 }
 
+#[tactic(auto, using(crate::proofs::Newlines::line_ends))]
 fn newline_from(block: &[u8], start: usize) -> usize
     ensures { result ≡ line_end block.now start }
 {
