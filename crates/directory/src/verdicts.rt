@@ -13,7 +13,7 @@ use numbers::pair;
 use preludes::{Prelude, prelude_candidates};
 use slots::{Found, Scan, scanned_directory};
 
-#[derive(Drop)]
+#[derive(Clone, Copy)]
 pub enum Verdict {
     Accepted,
     WrongLength(usize),
@@ -33,14 +33,14 @@ pub enum Verdict {
 }
 
 // How the directory was found: by a prelude that declares its count, or by the scan.
-#[derive(Drop)]
+#[derive(Clone, Copy)]
 pub enum Declared {
     Count(usize),
     Scanned,
 }
 
 // Where the slots stand, how many they are, and how they were found. Where `found` is false, none at 0.
-#[derive(Drop)]
+#[derive(Clone, Copy)]
 pub struct Listed {
     pub found: bool,
     pub start: usize,
@@ -49,7 +49,7 @@ pub struct Listed {
 }
 
 // A warning that is `Nothing` is not given.
-#[derive(Drop)]
+#[derive(Clone, Copy)]
 pub struct Decided {
     pub verdict: Verdict,
     pub listed: Listed,
@@ -59,7 +59,7 @@ pub struct Decided {
 }
 
 // The live offsets that point into the directory: the first in slot order, and how many.
-#[derive(Drop)]
+#[derive(Clone, Copy)]
 pub(crate) struct Inside {
     first: usize,
     dropped: usize,
@@ -101,6 +101,7 @@ impl Verdict {
 }
 
 // The parse of a page, its checks in their order: the length, the limit, where the directory is, offsets inside it.
+#[tactic(auto, using(crate::proofs::Decisions::deciding))]
 pub fn decide(plain: &[u8], limit: usize, lenient: bool) -> Decided
     ensures { result ≡ decision_of limit plain.now lenient }
 {
@@ -174,6 +175,7 @@ fn scanned_as(d: Scan) -> Listed
 }
 
 // Where the directory is, by the row count n.
+#[tactic(auto, using(crate::proofs::Decisions::finding))]
 fn find(plain: &[u8], limit: usize, n: u8, lenient: bool) -> Decided
     ensures { result ≡ found_of limit plain.now n lenient }
 {
