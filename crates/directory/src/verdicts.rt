@@ -101,6 +101,7 @@ impl Verdict {
 }
 
 // The parse of a page, its checks in their order: the length, the limit, where the directory is, offsets inside it.
+#[tactic(auto, using(crate::proofs::Decisions::deciding))]
 pub fn decide(plain: &[u8], limit: usize, lenient: bool) -> Decided
     ensures { result ≡ decision_of limit plain.now lenient }
 {
@@ -174,6 +175,7 @@ fn scanned_as(d: Scan) -> Listed
 }
 
 // Where the directory is, by the row count n.
+#[tactic(auto, using(crate::proofs::Decisions::finding))]
 fn find(plain: &[u8], limit: usize, n: u8, lenient: bool) -> Decided
     ensures { result ≡ found_of limit plain.now n lenient }
 {
