@@ -10,7 +10,6 @@ use lib.ListN.{length, get_or, set, take, drop, replicate, length-take, length-d
 use lib.Seq.{take-suc, take_all, get_or-drop, drop-drop, get_or-set_same, get_or-set_other}
 use Rattle.lists.specs.Bytes.{byte_at}
 use Rattle.lists.specs.Counts.{count, sum}
-use Rattle.lists.specs.Pieces.{each}
 use Rattle.lists.proofs.Picks.{pick-case}
 use Rattle.lists.proofs.Count.{count_none, count-le, count-halves, count-last-same, count-last-other}
 use Rattle.lists.proofs.Each.{each-ext}

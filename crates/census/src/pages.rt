@@ -8,7 +8,7 @@ use numbers::wide;
 use sector::Fit;
 
 // How often each value occurs, how many exact sectors vote for it, and how many vote in all.
-#[derive(Drop)]
+#[derive(Clone, Copy)]
 pub struct Tally {
     pub counts: [u16; 256],
     pub votes: [u16; 256],
