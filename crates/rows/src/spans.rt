@@ -11,28 +11,28 @@ use directory::decide;
 use numbers::pair;
 
 // Where a row lies in the page.
-#[derive(Drop)]
+#[derive(Clone, Copy)]
 pub enum Span {
     At { offset: usize, end: usize },
     NoRow,
 }
 
 // What asking for a row answers, and where it lies.
-#[derive(Drop)]
+#[derive(Clone, Copy)]
 pub struct RowFound {
     pub answer: Answer,
     pub span: Span,
 }
 
 // What the parse answers, and how many rows there are.
-#[derive(Drop)]
+#[derive(Clone, Copy)]
 pub struct RowsCounted {
     pub answer: Answer,
     pub rows: usize,
 }
 
 // A row: where it starts, its part of the plaintext, and whether its length was read from the row itself, which it never is.
-#[derive(Drop)]
+#[derive(Clone, Copy)]
 pub struct Row<'a> {
     pub offset: usize,
     pub bytes: &'a [u8],

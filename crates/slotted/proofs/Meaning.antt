@@ -20,7 +20,7 @@ use Rattle.directory.specs.declared.verdicts.Decided.{Decided}
 use Rattle.slotted.specs.declared.locations.Located.{Located}
 use Rattle.directory.proofs.Found.{scanned-few}
 use Rattle.directory.proofs.Decisions.{found-holds, decided-holds}
-use Rattle.slotted.proofs.Located.{table-given}
+use Rattle.slotted.proofs.Locating.{table-given}
 
 one_more : (t : ParseWarnings) (number : ℕ) (kind : WarningKind) (n : ℕ) → t.len ≤ n → (warned t number kind).len ≤ n + 1
 unfolding warned with_parse_warning

@@ -20,7 +20,7 @@ use Rattle.directory.specs.declared.verdicts.Decided.{Decided}
 use Rattle.slotted.specs.declared.locations.Located.{Located}
 use Rattle.slotted.specs.declared.directories.SlotDirectory.{SlotDirectory}
 use Rattle.slotted.specs.declared.directories.Parsed.{Parsed}
-use Rattle.slotted.proofs.Located.{table-given}
+use Rattle.slotted.proofs.Locating.{table-given}
 
 -- the table, slot by slot
 pub table_none : (plain : List ℕ) (start : ℕ) (t : List ℕ) → t ≡ table_of [] → t ≡ table_of (slots_of plain start 0)

@@ -10,7 +10,7 @@ use directory::{Declared, Listed, decide};
 use numbers::pair;
 
 // `array_start` and `end` are byte offsets; the slots are in array order, zeros deleted ones, and 0 stands in the places past `len`.
-#[derive(Drop)]
+#[derive(Clone, Copy)]
 pub struct SlotDirectory {
     pub array_start: usize,
     pub end: usize,
@@ -20,7 +20,7 @@ pub struct SlotDirectory {
 }
 
 // Where `found` is false, the directory is the blank one. A refusal has neither a directory nor warnings.
-#[derive(Drop)]
+#[derive(Clone, Copy)]
 pub struct Parsed {
     pub answer: Answer,
     pub found: bool,

@@ -8,7 +8,7 @@ use answers::{Answer, Options, Warning, WarningKind};
 use directory::{Listed, decide};
 
 // The warnings that are given, in their order: the first `len` of the three. The others are blank.
-#[derive(Drop)]
+#[derive(Clone, Copy)]
 pub struct Given {
     pub len: usize,
     pub first: Warning,
@@ -17,7 +17,7 @@ pub struct Given {
 }
 
 // All that a parse says but the slots, which are in the page from `listed.start` on. A refusal has neither a directory nor warnings.
-#[derive(Drop)]
+#[derive(Clone, Copy)]
 pub struct Located {
     pub answer: Answer,
     pub listed: Listed,
