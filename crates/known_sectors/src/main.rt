@@ -5,98 +5,100 @@
 
 ghost use Rattle.std.specs.Prelude.{◌≡◌, length};
 
-use libc::STDOUT_FILENO;
 use sector::Fit;
+use std::io;
 
-fn main() {
-    sectors(0);
-    sectors(1);
-    sectors(2);
-    sectors(3);
-    sectors(5);
-    sectors(63);
-    sectors(64);
-    sectors(65);
-    sectors(495);
-    sectors(496);
-    sectors(511);
-    sectors(512);
-    sectors(513);
-    other_room();
+fn main(rt: HostRuntime) -> io::Result<()> {
+    sectors(&rt, 0)?;
+    sectors(&rt, 1)?;
+    sectors(&rt, 2)?;
+    sectors(&rt, 3)?;
+    sectors(&rt, 5)?;
+    sectors(&rt, 63)?;
+    sectors(&rt, 64)?;
+    sectors(&rt, 65)?;
+    sectors(&rt, 495)?;
+    sectors(&rt, 496)?;
+    sectors(&rt, 511)?;
+    sectors(&rt, 512)?;
+    sectors(&rt, 513)?;
+    other_room(&rt)
 }
 
-fn sectors(n: usize) {
-    lines(n, 0);
-    lines(n, 1);
-    lines(n, 127);
-    lines(n, 128);
-    lines(n, 129);
-    lines(n, 255);
+fn sectors(rt: &impl Print, n: usize) -> io::Result<()> {
+    lines(rt, n, 0)?;
+    lines(rt, n, 1)?;
+    lines(rt, n, 127)?;
+    lines(rt, n, 128)?;
+    lines(rt, n, 129)?;
+    lines(rt, n, 255)
 }
 
 // The line whole, with one byte off it at each place that the sector has, and left for another line.
-fn lines(n: usize, step: u8) {
-    scan(n, step, n, n);
-    broken(n, step, 2);
-    broken(n, step, 3);
-    broken(n, step, 63);
-    broken(n, step, 64);
-    broken(n, step, 65);
-    broken(n, step, 127);
-    broken(n, step, 128);
-    broken(n, step, 495);
-    broken(n, step, 510);
-    broken(n, step, 511);
-    left(n, step, 3);
-    left(n, step, 64);
-    left(n, step, 128);
+fn lines(rt: &impl Print, n: usize, step: u8) -> io::Result<()> {
+    scan(rt, n, step, n, n)?;
+    broken(rt, n, step, 2)?;
+    broken(rt, n, step, 3)?;
+    broken(rt, n, step, 63)?;
+    broken(rt, n, step, 64)?;
+    broken(rt, n, step, 65)?;
+    broken(rt, n, step, 127)?;
+    broken(rt, n, step, 128)?;
+    broken(rt, n, step, 495)?;
+    broken(rt, n, step, 510)?;
+    broken(rt, n, step, 511)?;
+    left(rt, n, step, 3)?;
+    left(rt, n, step, 64)?;
+    left(rt, n, step, 128)
 }
 
-fn broken(n: usize, step: u8, at: usize) {
+fn broken(rt: &impl Print, n: usize, step: u8, at: usize) -> io::Result<()> {
     if at < n {
-        scan(n, step, at, at + 1);
+        scan(rt, n, step, at, at + 1)?;
     }
+    Ok(())
 }
 
-fn left(n: usize, step: u8, at: usize) {
+fn left(rt: &impl Print, n: usize, step: u8, at: usize) -> io::Result<()> {
     if at < n {
-        scan(n, step, at, n);
+        scan(rt, n, step, at, n)?;
     }
+    Ok(())
 }
 
-fn scan(n: usize, step: u8, from: usize, to: usize) {
+fn scan(rt: &impl Print, n: usize, step: u8, from: usize, to: usize) -> io::Result<()> {
     if n > 513 {
-        return;
+        return Ok(());
     }
     let mut stored = room();
     lay(&mut stored, step);
     raise(&mut stored, from, to);
     let mut quick = room();
     let mut full = room();
-    number(n as u64);
-    number(step as u64);
-    number(from as u64);
-    number(to as u64);
-    both(&stored[0..n], &mut quick[0..n], &mut full[0..n]);
+    number(rt, n as u64)?;
+    number(rt, step as u64)?;
+    number(rt, from as u64)?;
+    number(rt, to as u64)?;
+    both(rt, &stored[0..n], &mut quick[0..n], &mut full[0..n])
 }
 
 // Buffers that are a byte longer than the sector: a blank, and they stay.
-fn other_room() {
+fn other_room(rt: &impl Print) -> io::Result<()> {
     let mut stored = room();
     lay(&mut stored, 1);
     let mut quick = room();
     let mut full = room();
-    text(b" other room");
-    both(&stored[0..512], &mut quick, &mut full);
+    text(rt, b" other room")?;
+    both(rt, &stored[0..512], &mut quick, &mut full)
 }
 
-fn both(stored: &[u8], quick: &mut [u8], full: &mut [u8]) {
+fn both(rt: &impl Print, stored: &[u8], quick: &mut [u8], full: &mut [u8]) -> io::Result<()> {
     let a = quick::scan_sector(stored, 200, quick);
     let b = sector::scan_sector(stored, 200, full);
-    text(b":");
-    show(a);
-    number(sum(quick));
-    verdict(same_fit(a, b) && same_bytes(quick, full));
+    text(rt, b":")?;
+    show(rt, a)?;
+    number(rt, sum(quick))?;
+    verdict(rt, same_fit(a, b) && same_bytes(quick, full))
 }
 
 // A line from 17 on.
@@ -105,7 +107,7 @@ fn lay(stored: &mut [u8], step: u8) {
     let mut i: usize = 0;
     while i < stored.len() {
         stored[i] = next;
-        next = std::num::wrapping_add_u8(next, step);
+        next = next.wrapping_add(step);
         i += 1;
     }
 }
@@ -121,16 +123,16 @@ fn raise(stored: &mut [u8], from: usize, to: usize) {
 
 fn raise_one(stored: &mut [u8], at: usize) {
     if at < stored.len() {
-        stored[at] = std::num::wrapping_add_u8(stored[at], 1);
+        stored[at] = stored[at].wrapping_add(1);
     }
 }
 
-fn show(fit: Fit) {
-    number(fit.step as u64);
-    number(fit.peak as u64);
-    number(fit.runner_up as u64);
-    number(numbers::bit(fit.exact) as u64);
-    number(fit.tied as u64);
+fn show(rt: &impl Print, fit: Fit) -> io::Result<()> {
+    number(rt, fit.step as u64)?;
+    number(rt, fit.peak as u64)?;
+    number(rt, fit.runner_up as u64)?;
+    number(rt, numbers::bit(fit.exact) as u64)?;
+    number(rt, fit.tied as u64)
 }
 
 // Each byte counts by its place. The first remainder only keeps the numbers from running over.
@@ -144,12 +146,13 @@ fn sum(bytes: &[u8]) -> u64 {
     sum
 }
 
-fn verdict(same: bool) {
+fn verdict(rt: &impl Print, same: bool) -> io::Result<()> {
     if same {
-        text(b" same\n");
+        text(rt, b" same\n")?;
     } else {
-        text(b" differ\n");
+        text(rt, b" differ\n")?;
     }
+    Ok(())
 }
 
 fn same_fit(a: Fit, b: Fit) -> bool {
@@ -182,11 +185,11 @@ fn room() -> [u8; 513]
     [165u8; 513]
 }
 
-fn number(n: u64) {
-    text(b" ");
-    io::print_decimal(STDOUT_FILENO, n);
+fn number(rt: &impl Print, n: u64) -> io::Result<()> {
+    text(rt, b" ")?;
+    print!(rt; "{n}")
 }
 
-fn text(s: &[u8]) {
-    io::write_all(STDOUT_FILENO, s);
+fn text(rt: &impl Print, s: &[u8]) -> io::Result<()> {
+    rt.write_all(s)
 }
