@@ -12,38 +12,63 @@ ghost use Rattle.std.specs.Prelude.{◌≡◌, length};
 use crate::making::{Family, Rest, make};
 use crate::telling::{Seen, name, noted, nothing, tell};
 use sector::Fit;
+use std::io;
 
 // Any page's: its sectors have eight offsets.
 const NUMBER: u64 = 1000003;
 
-fn main() {
-    sectors(512, 511);
-    sectors(496, 495);
-    every_length();
+fn main(rt: HostRuntime) -> io::Result<()> {
+    sectors(&rt, 512, 511)?;
+    sectors(&rt, 496, 495)?;
+    every_length(&rt)
 }
 
-fn sectors(n: usize, all_but_one: usize) {
-    counts(n, 248);
-    counts(n, 254);
-    counts(n, 255);
-    counts(n, 256);
-    counts(n, 257);
+fn sectors(rt: &impl Print, n: usize, all_but_one: usize) -> io::Result<()> {
+    counts(rt, n, 248)?;
+    counts(rt, n, 254)?;
+    counts(rt, n, 255)?;
+    counts(rt, n, 256)?;
+    counts(rt, n, 257)?;
     // Each place is once the one that is off.
-    family(n, all_but_one, false, Rest::Off, n, b"");
-    family(n, 256, true, Rest::Random, 64, b", others random");
-    family(n, 0, false, Rest::Either, 64, b", others on it or above");
-    family(n, 0, false, Rest::Triangular, 64, b", others triangular");
-    family(n, 0, false, Rest::Random, 64, b", others random");
+    family(rt, n, all_but_one, false, Rest::Off, n, b"")?;
+    family(rt, n, 256, true, Rest::Random, 64, b", others random")?;
+    family(
+        rt,
+        n,
+        0,
+        false,
+        Rest::Either,
+        64,
+        b", others on it or above",
+    )?;
+    family(
+        rt,
+        n,
+        0,
+        false,
+        Rest::Triangular,
+        64,
+        b", others triangular",
+    )?;
+    family(rt, n, 0, false, Rest::Random, 64, b", others random")
 }
 
-fn counts(n: usize, on: usize) {
-    family(n, on, false, Rest::Off, 64, b"");
-    family(n, on, true, Rest::Off, 64, b"");
-    family(n, on, false, Rest::Another, 64, b", others on another");
-    family(n, on, true, Rest::Another, 64, b", others on another");
+fn counts(rt: &impl Print, n: usize, on: usize) -> io::Result<()> {
+    family(rt, n, on, false, Rest::Off, 64, b"")?;
+    family(rt, n, on, true, Rest::Off, 64, b"")?;
+    family(rt, n, on, false, Rest::Another, 64, b", others on another")?;
+    family(rt, n, on, true, Rest::Another, 64, b", others on another")
 }
 
-fn family(n: usize, on: usize, second: bool, rest: Rest, count: usize, words: &[u8]) {
+fn family(
+    rt: &impl Print,
+    n: usize,
+    on: usize,
+    second: bool,
+    rest: Rest,
+    count: usize,
+    words: &[u8],
+) -> io::Result<()> {
     let family = Family { on, second, rest };
     let mut seen = nothing();
     let mut k: usize = 0;
@@ -51,11 +76,11 @@ fn family(n: usize, on: usize, second: bool, rest: Rest, count: usize, words: &[
         seen = one(seen, family, n, k);
         k += 1;
     }
-    name(n, on, second, words);
-    tell(count, seen);
+    name(rt, n, on, second, words)?;
+    tell(rt, count, seen)
 }
 
-fn every_length() {
+fn every_length(rt: &impl Print) -> io::Result<()> {
     let family = Family {
         on: 0,
         second: false,
@@ -67,8 +92,14 @@ fn every_length() {
         seen = one(seen, family, n, n);
         n += 1;
     }
-    name(512, 0, false, b", others random, of each length up to this");
-    tell(513, seen);
+    name(
+        rt,
+        512,
+        0,
+        false,
+        b", others random, of each length up to this",
+    )?;
+    tell(rt, 513, seen)
 }
 
 fn one(seen: Seen, family: Family, n: usize, k: usize) -> Seen {

@@ -4,7 +4,7 @@ use sector::wrapping_mul_u8;
 use std::num::wrapping_add_u8;
 
 // How many bytes lie on the line, whether every second place comes to it before the others do, and what those are that do not.
-#[derive(Drop)]
+#[derive(Clone, Copy)]
 pub struct Family {
     pub on: usize,
     pub second: bool,
@@ -12,7 +12,7 @@ pub struct Family {
 }
 
 // Off the line; on another; on this one or one above it; off it by triangular numbers, for which all steps tie; random.
-#[derive(Drop)]
+#[derive(Clone, Copy)]
 pub enum Rest {
     Off,
     Another,
@@ -22,7 +22,7 @@ pub enum Rest {
 }
 
 // Two lines, and where the random numbers go on.
-#[derive(Drop)]
+#[derive(Clone, Copy)]
 struct Lines {
     first: u8,
     step: u8,

@@ -1,6 +1,6 @@
 // What was met in a family of sectors, and its line.
-use libc::STDOUT_FILENO;
 use sector::Fit;
+use std::io;
 
 #[derive(Drop)]
 pub struct Seen {
@@ -67,47 +67,55 @@ fn sum_with(sum: u64, x: u64) -> u64 {
 }
 
 // What the sectors are.
-pub(crate) fn name(n: usize, on: usize, second: bool, others: &[u8]) {
-    number(b"", n as u64);
-    number(b" bytes, ", on as u64);
-    text(b" on a line");
+pub(crate) fn name(
+    rt: &impl Print,
+    n: usize,
+    on: usize,
+    second: bool,
+    others: &[u8],
+) -> io::Result<()> {
+    number(rt, b"", n as u64)?;
+    number(rt, b" bytes, ", on as u64)?;
+    text(rt, b" on a line")?;
     if second {
-        text(b", every second one");
+        text(rt, b", every second one")?;
     }
-    text(others);
+    text(rt, others)
 }
 
 // What was met in so many.
-pub(crate) fn tell(count: usize, seen: Seen) {
-    number(b": ", count as u64);
-    range(b" sectors, peaks ", seen.least_peak, seen.greatest_peak);
+pub(crate) fn tell(rt: &impl Print, count: usize, seen: Seen) -> io::Result<()> {
+    number(rt, b": ", count as u64)?;
+    range(rt, b" sectors, peaks ", seen.least_peak, seen.greatest_peak)?;
     range(
+        rt,
         b", runners-up ",
         seen.least_runner_up,
         seen.greatest_runner_up,
-    );
-    number(b", sum ", seen.sum);
-    verdict(seen.same);
+    )?;
+    number(rt, b", sum ", seen.sum)?;
+    verdict(rt, seen.same)
 }
 
-fn range(before: &[u8], least: u16, greatest: u16) {
-    number(before, least as u64);
-    number(b" to ", greatest as u64);
+fn range(rt: &impl Print, before: &[u8], least: u16, greatest: u16) -> io::Result<()> {
+    number(rt, before, least as u64)?;
+    number(rt, b" to ", greatest as u64)
 }
 
-fn verdict(same: bool) {
+fn verdict(rt: &impl Print, same: bool) -> io::Result<()> {
     if same {
-        text(b", all same\n");
+        text(rt, b", all same\n")?;
     } else {
-        text(b", not all same\n");
+        text(rt, b", not all same\n")?;
     }
+    Ok(())
 }
 
-fn number(before: &[u8], n: u64) {
-    text(before);
-    io::print_decimal(STDOUT_FILENO, n);
+fn number(rt: &impl Print, before: &[u8], n: u64) -> io::Result<()> {
+    text(rt, before)?;
+    print!(rt; "{n}")
 }
 
-fn text(s: &[u8]) {
-    io::write_all(STDOUT_FILENO, s);
+fn text(rt: &impl Print, s: &[u8]) -> io::Result<()> {
+    rt.write_all(s)
 }
