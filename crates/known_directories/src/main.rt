@@ -5,16 +5,17 @@
 
 use answers::{Answer, Options, ParseWarnings, Values, WarningKind};
 use directory::Declared;
-use libc::{STDIN_FILENO, STDOUT_FILENO};
 use rows::Span;
+use std::io;
+use std::io::Read;
 
-fn text(s: &[u8]) {
-    io::write_all(STDOUT_FILENO, s);
+fn text(rt: &impl Print, s: &[u8]) -> io::Result<()> {
+    rt.write_all(s)
 }
 
-fn number(n: u64) {
-    text(b" ");
-    io::print_decimal(STDOUT_FILENO, n);
+fn number(rt: &impl Print, n: u64) -> io::Result<()> {
+    text(rt, b" ")?;
+    print!(rt; "{n}")
 }
 
 // A pair at an offset, the least byte first.
@@ -71,132 +72,134 @@ fn read(page: &mut [u8], c: u8, pair: Pair) -> Pair {
     }
 }
 
-fn answer(a: Answer) {
-    number(a.number() as u64);
-    values(a.values());
+fn answer(rt: &impl Print, a: Answer) -> io::Result<()> {
+    number(rt, a.number() as u64)?;
+    values(rt, a.values())
 }
 
-fn warning(kind: WarningKind) {
-    number(kind.number() as u64);
-    values(kind.values());
+fn warning(rt: &impl Print, kind: WarningKind) -> io::Result<()> {
+    number(rt, kind.number() as u64)?;
+    values(rt, kind.values())
 }
 
 // As many of the four as there are.
-fn values(v: Values) {
+fn values(rt: &impl Print, v: Values) -> io::Result<()> {
     if 0 < v.count {
-        number(v.first);
+        number(rt, v.first)?;
     }
     if 1 < v.count {
-        number(v.second);
+        number(rt, v.second)?;
     }
     if 2 < v.count {
-        number(v.third);
+        number(rt, v.third)?;
     }
     if 3 < v.count {
-        number(v.fourth);
+        number(rt, v.fourth)?;
     }
+    Ok(())
 }
 
-fn declared(how: Declared) {
+fn declared(rt: &impl Print, how: Declared) -> io::Result<()> {
     match how {
-        Declared::Count(n) => number(n as u64),
-        Declared::Scanned => text(b" -"),
+        Declared::Count(n) => number(rt, n as u64),
+        Declared::Scanned => text(rt, b" -"),
     }
 }
 
 // The parse, then the rows.
-fn show(name: &[u8], plain: &[u8], bits: u8, limit: usize) {
-    text(name);
+fn show(rt: &impl Print, name: &[u8], plain: &[u8], bits: u8, limit: usize) -> io::Result<()> {
+    text(rt, name)?;
     let options = Options::new(bits, Options::MIN_TRAILER_COUNT, limit);
     let parsed = slotted::parse(7, plain, options);
     let a = parsed.answer;
-    answer(a);
+    answer(rt, a)?;
     if parsed.found {
         let directory = parsed.directory;
-        text(b" directory");
-        number(directory.array_start as u64);
-        number(directory.end as u64);
-        number(directory.len as u64);
+        text(rt, b" directory")?;
+        number(rt, directory.array_start as u64)?;
+        number(rt, directory.end as u64)?;
+        number(rt, directory.len as u64)?;
         let how = directory.declared;
-        declared(how);
+        declared(rt, how)?;
     }
-    text(b" warnings");
+    text(rt, b" warnings")?;
     let warnings = parsed.warnings;
-    nth_warning(warnings, 0);
-    nth_warning(warnings, 1);
-    nth_warning(warnings, 2);
-    text(b" rows");
-    list(plain, options);
-    text(b" starts");
-    two_starts(plain, options);
-    text(b"\n");
+    nth_warning(rt, warnings, 0)?;
+    nth_warning(rt, warnings, 1)?;
+    nth_warning(rt, warnings, 2)?;
+    text(rt, b" rows")?;
+    list(rt, plain, options)?;
+    text(rt, b" starts")?;
+    two_starts(rt, plain, options)?;
+    text(rt, b"\n")
 }
 
 // Nothing past the last: a parse has at most three.
-fn nth_warning(warnings: ParseWarnings, i: usize) {
+fn nth_warning(rt: &impl Print, warnings: ParseWarnings, i: usize) -> io::Result<()> {
     if warnings.len <= i {
-        return;
+        return Ok(());
     }
     if 1026 <= i {
-        return;
+        return Ok(());
     }
     let w = warnings.items[i];
     let kind = w.kind;
-    warning(kind);
+    warning(rt, kind)
 }
 
 // Each row's offset and length, then what asking for one more answers.
-fn list(plain: &[u8], options: Options) {
+fn list(rt: &impl Print, plain: &[u8], options: Options) -> io::Result<()> {
     let count = rows::row_count(plain, options);
     let mut r: usize = 0;
     while r < count {
         match rows::row_span(plain, options, r) {
-            Span::At { offset, end: _ } => number(offset as u64),
-            Span::NoRow => text(b" none"),
+            Span::At { offset, end: _ } => number(rt, offset as u64)?,
+            Span::NoRow => text(rt, b" none")?,
         }
-        number(rows::row_bytes(plain, options, r).len() as u64);
+        number(rt, rows::row_bytes(plain, options, r).len() as u64)?;
         r += 1;
     }
-    text(b" then");
-    answer(rows::row_answer(7, plain, options, count));
+    text(rt, b" then")?;
+    answer(rt, rows::row_answer(7, plain, options, count))
 }
 
 // An offset in the page.
-fn place(at: u16) {
-    number(at as u64);
+fn place(rt: &impl Print, at: u16) -> io::Result<()> {
+    number(rt, at as u64)
 }
 
 // Where the first two rows start, in a buffer that has room for no more and held 9, then what is answered beside it.
-fn two_starts(plain: &[u8], options: Options) {
+fn two_starts(rt: &impl Print, plain: &[u8], options: Options) -> io::Result<()> {
     let mut starts = [9u16; 2];
     let counted = rows::row_starts(7, plain, options, &mut starts);
-    place(starts[0]);
-    place(starts[1]);
-    text(b" of");
+    place(rt, starts[0])?;
+    place(rt, starts[1])?;
+    text(rt, b" of")?;
     let a = counted.answer;
-    answer(a);
-    number(counted.rows as u64);
+    answer(rt, a)?;
+    number(rt, counted.rows as u64)
 }
 
-fn both_at(limit: usize, name: &[u8], plain: &[u8]) {
-    show(name, plain, 0, limit);
-    show(name, plain, 2, limit);
+fn both_at(rt: &impl Print, limit: usize, name: &[u8], plain: &[u8]) -> io::Result<()> {
+    show(rt, name, plain, 0, limit)?;
+    show(rt, name, plain, 2, limit)
 }
 
-fn both(name: &[u8], plain: &[u8]) {
-    both_at(Options::SEARCH_LIMIT, name, plain);
+fn both(rt: &impl Print, name: &[u8], plain: &[u8]) -> io::Result<()> {
+    both_at(rt, Options::SEARCH_LIMIT, name, plain)
 }
 
-fn yes(b: bool) {
+fn yes(rt: &impl Print, b: bool) -> io::Result<()> {
     if b {
-        text(b" yes");
+        text(rt, b" yes")?;
     } else {
-        text(b" no");
+        text(rt, b" no")?;
     }
+    Ok(())
 }
 
-fn matches(plain: &[u8], limit: usize, t: u8) {
-    yes(slots::page_row_count_matches(plain, limit, t));
+fn matches(rt: &impl Print, plain: &[u8], limit: usize, t: u8) -> io::Result<()> {
+    yes(rt, slots::page_row_count_matches(plain, limit, t))
 }
 
 // What the record of a row holds: where it starts, how long its part is, and its exact mark.
@@ -216,143 +219,165 @@ fn record_of(plain: &[u8], options: Options, r: usize) -> RowRecord {
     }
 }
 
-fn show_record(plain: &[u8], r: usize) {
+fn show_record(rt: &impl Print, plain: &[u8], r: usize) -> io::Result<()> {
     let record = record_of(plain, Options::strict(), r);
-    number(record.offset as u64);
-    number(record.length as u64);
-    yes(record.exact);
+    number(rt, record.offset as u64)?;
+    number(rt, record.length as u64)?;
+    yes(rt, record.exact)
 }
 
 // A page of zeros but for its pairs.
-fn known(name: &[u8], pairs: &[u8]) {
-    let mut page = io::buffer();
+fn known(rt: &impl Print, name: &[u8], pairs: &[u8]) -> io::Result<()> {
+    let mut page = [0u8; 4096];
     lay(&mut page, pairs);
-    both(name, &page);
+    both(rt, name, &page)
 }
 
-fn four_rows() {
-    let mut page = io::buffer();
+fn four_rows(rt: &impl Print) -> io::Result<()> {
+    let mut page = [0u8; 4096];
     lay(&mut page, b"FF0:5 40:5 44:F00,E00,D00,0,C00");
-    both(b"four rows", &page);
-    text(b"row count at T 5 and 6");
-    matches(&page, Options::SEARCH_LIMIT, 5);
-    matches(&page, Options::SEARCH_LIMIT, 6);
-    text(b"\nits records");
-    show_record(&page, 0);
-    show_record(&page, 1);
-    show_record(&page, 2);
-    show_record(&page, 3);
-    text(b"\n");
+    both(rt, b"four rows", &page)?;
+    text(rt, b"row count at T 5 and 6")?;
+    matches(rt, &page, Options::SEARCH_LIMIT, 5)?;
+    matches(rt, &page, Options::SEARCH_LIMIT, 6)?;
+    text(rt, b"\nits records")?;
+    show_record(rt, &page, 0)?;
+    show_record(rt, &page, 1)?;
+    show_record(rt, &page, 2)?;
+    show_record(rt, &page, 3)?;
+    text(rt, b"\n")
 }
 
-fn few_rows_or_none() {
-    known(b"count below four", b"FF0:2 40:2 44:F00,E00");
-    known(b"four live", b"50:F00,E00,D00,C00");
-    known(b"eight live", b"50:F00,E00,D00,C00,B00,A00,900,800");
-    known(b"no prelude", b"FF0:5");
+fn few_rows_or_none(rt: &impl Print) -> io::Result<()> {
+    known(rt, b"count below four", b"FF0:2 40:2 44:F00,E00")?;
+    known(rt, b"four live", b"50:F00,E00,D00,C00")?;
+    known(rt, b"eight live", b"50:F00,E00,D00,C00,B00,A00,900,800")?;
+    known(rt, b"no prelude", b"FF0:5")
 }
 
-fn broken_off() {
-    known(b"truncated", b"FF0:6 40:6 44:F00,E00,D00,C00,B00,FFFF");
+fn broken_off(rt: &impl Print) -> io::Result<()> {
+    known(rt, b"truncated", b"FF0:6 40:6 44:F00,E00,D00,C00,B00,FFFF")?;
     known(
+        rt,
         b"truncated, a zero counted",
         b"FF0:8 40:8 44:F00,E00,0,D00,C00,F00",
-    );
+    )?;
     known(
+        rt,
         b"two truncated alike",
         b"FF0:6 40:6 44:F00,E00,D00,C00,FFFF 100:6 104:F00,E00,D00,C00,FFFF",
-    );
-    known(b"first slot 0xFF0", b"FF0:4 40:4 44:FF0,F00,E00,D00");
+    )?;
+    known(rt, b"first slot 0xFF0", b"FF0:4 40:4 44:FF0,F00,E00,D00")
 }
 
 // The first has 40 slots from 0x303 on, all but four of them zero.
-fn two_or_past_the_limit() {
-    known(b"field 0x2FF", b"FF0:28 2FF:28 303:F00,E00,D00,C00");
+fn two_or_past_the_limit(rt: &impl Print) -> io::Result<()> {
+    known(rt, b"field 0x2FF", b"FF0:28 2FF:28 303:F00,E00,D00,C00")?;
     known(
+        rt,
         b"two preludes",
         b"FF0:4 40:4 44:F00,E00,D00,C00 100:4 106:E00,D00,C00,B00,A00",
-    );
+    )?;
     // A scan would find eight slots.
     known(
+        rt,
         b"two preludes of two",
         b"FF0:2 40:2 44:F00,E00 100:2 104:E00,D00 200:F00,E00,D00,C00,B00,A00,900,800",
-    );
+    )
 }
 
-fn inside() {
-    known(b"offsets inside", b"FF0:5 40:5 44:F00,E00,4C,48,44");
-    known(b"offsets at the ends", b"FF0:5 40:5 44:F00,E00,D00,4E,43");
-    known(b"scanned, offsets inside", b"50:F00,E00,D00,C00,5A,52");
+fn inside(rt: &impl Print) -> io::Result<()> {
+    known(rt, b"offsets inside", b"FF0:5 40:5 44:F00,E00,4C,48,44")?;
+    known(
+        rt,
+        b"offsets at the ends",
+        b"FF0:5 40:5 44:F00,E00,D00,4E,43",
+    )?;
+    known(rt, b"scanned, offsets inside", b"50:F00,E00,D00,C00,5A,52")
 }
 
 // From 0 the scan's array is at 2; from 1 it is at 1, and as good.
-fn earliest_scan() {
-    known(b"earliest scan", b"2:E0F,C0D,A0B,809");
+fn earliest_scan(rt: &impl Print) -> io::Result<()> {
+    known(rt, b"earliest scan", b"2:E0F,C0D,A0B,809")
 }
 
-fn earliest_scan_counted() {
-    let mut page = io::buffer();
+fn earliest_scan_counted(rt: &impl Print) -> io::Result<()> {
+    let mut page = [0u8; 4096];
     lay(&mut page, b"FF0:4 20:4 22:107 26:E0F,C0D,A0B,809");
-    both(b"earliest scan, counted", &page);
-    text(b"row count at T 4");
-    matches(&page, Options::SEARCH_LIMIT, 4);
-    text(b"\n");
+    both(rt, b"earliest scan, counted", &page)?;
+    text(rt, b"row count at T 4")?;
+    matches(rt, &page, Options::SEARCH_LIMIT, 4)?;
+    text(rt, b"\n")
 }
 
 // The first field that 768 leaves out, and slots that end at 782.
-fn at_other_limits() {
-    let mut page = io::buffer();
+fn at_other_limits(rt: &impl Print) -> io::Result<()> {
+    let mut page = [0u8; 4096];
     lay(&mut page, b"FF0:5 300:5 304:F00,E00,D00,0,C00");
-    both_at(768, b"field 0x300 at 768", &page);
-    both_at(769, b"field 0x300 at 769", &page);
-    both_at(2049, b"field 0x300 at 2,049", &page);
-    text(b"row count at 781, 782 and 2,049");
-    matches(&page, 781, 5);
-    matches(&page, 782, 5);
-    matches(&page, 2049, 5);
-    text(b"\n");
+    both_at(rt, 768, b"field 0x300 at 768", &page)?;
+    both_at(rt, 769, b"field 0x300 at 769", &page)?;
+    both_at(rt, 2049, b"field 0x300 at 2,049", &page)?;
+    text(rt, b"row count at 781, 782 and 2,049")?;
+    matches(rt, &page, 781, 5)?;
+    matches(rt, &page, 782, 5)?;
+    matches(rt, &page, 2049, 5)?;
+    text(rt, b"\n")
 }
 
-fn empty() {
-    let page = io::buffer();
-    both(b"empty", &page);
+fn empty(rt: &impl Print) -> io::Result<()> {
+    let page = [0u8; 4096];
+    both(rt, b"empty", &page)
 }
 
-fn short() {
-    let page = io::buffer();
-    both(b"short", &page[..4095]);
+fn short(rt: &impl Print) -> io::Result<()> {
+    let page = [0u8; 4096];
+    both(rt, b"short", &page[..4095])
 }
 
 // The pages of the input, 4,096 bytes each: more than are known by heart.
-fn inputs() {
+fn inputs(rt: &impl Print, pages: &mut impl Read) -> io::Result<()> {
     let mut k: usize = 0;
     while k < 1000000 {
-        if !input() {
-            return;
+        if !input(rt, pages)? {
+            return Ok(());
         }
         k += 1;
     }
+    Ok(())
 }
 
-fn input() -> bool {
-    let mut page = io::buffer();
-    if io::read_full(STDIN_FILENO, &mut page) < 4096 {
-        return false;
+fn input(rt: &impl Print, pages: &mut impl Read) -> io::Result<bool> {
+    let mut page = [0u8; 4096];
+    if read_full(pages, &mut page)? < 4096 {
+        return Ok(false);
     }
-    both(b"input", &page);
-    true
+    both(rt, b"input", &page)?;
+    Ok(true)
 }
 
-fn main() {
-    four_rows();
-    few_rows_or_none();
-    broken_off();
-    two_or_past_the_limit();
-    inside();
-    earliest_scan();
-    earliest_scan_counted();
-    at_other_limits();
-    empty();
-    short();
-    inputs();
+// Reads until the buffer is full or the input ends, and says how many bytes were put at its start.
+fn read_full(from: &mut impl Read, buffer: &mut [u8]) -> io::Result<usize> {
+    let mut done: usize = 0;
+    while done < buffer.len() {
+        let n = from.read(&mut buffer[done..])?;
+        if n == 0 {
+            break;
+        }
+        done += n;
+    }
+    Ok(done)
+}
+
+fn main(rt: HostRuntime) -> io::Result<()> {
+    four_rows(&rt)?;
+    few_rows_or_none(&rt)?;
+    broken_off(&rt)?;
+    two_or_past_the_limit(&rt)?;
+    inside(&rt)?;
+    earliest_scan(&rt)?;
+    earliest_scan_counted(&rt)?;
+    at_other_limits(&rt)?;
+    empty(&rt)?;
+    short(&rt)?;
+    inputs(&rt, &mut rt.stdin())
 }
