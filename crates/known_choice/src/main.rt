@@ -8,21 +8,21 @@ ghost use Rattle.std.specs.Prelude.{◌≡◌, length};
 
 use answers::Options;
 use choice::Choice;
-use libc::STDOUT_FILENO;
+use std::io;
 
-fn main() {
-    ambiguous();
-    supplied(0);
-    supplied(1);
-    chosen(791);
-    chosen(792);
-    chosen(2048);
-    chosen(2049);
-    unallocated(8);
-    unallocated(7);
+fn main(rt: HostRuntime) -> io::Result<()> {
+    ambiguous(&rt)?;
+    supplied(&rt, 0)?;
+    supplied(&rt, 1)?;
+    chosen(&rt, 791)?;
+    chosen(&rt, 792)?;
+    chosen(&rt, 2048)?;
+    chosen(&rt, 2049)?;
+    unallocated(&rt, 8)?;
+    unallocated(&rt, 7)
 }
 
-fn ambiguous() {
+fn ambiguous(rt: &impl Print) -> io::Result<()> {
     let mut page = room();
     page[0xFF2] = 0x45;
     seal(&mut page);
@@ -33,21 +33,21 @@ fn ambiguous() {
     let answer = choice.answer;
     let group = choice.group;
     let bvs = group.items;
-    number(answer.number());
-    number(bvs[0]);
-    number(bvs[1]);
-    number(bvs[2]);
-    number(bvs[3]);
-    number(bvs[4]);
-    number(bvs[5]);
-    number(bvs[6]);
-    number(bvs[7]);
-    io::write_all(STDOUT_FILENO, b"\n");
+    number(rt, answer.number())?;
+    number(rt, bvs[0])?;
+    number(rt, bvs[1])?;
+    number(rt, bvs[2])?;
+    number(rt, bvs[3])?;
+    number(rt, bvs[4])?;
+    number(rt, bvs[5])?;
+    number(rt, bvs[6])?;
+    number(rt, bvs[7])?;
+    rt.write_all(b"\n")
 }
 
 // Page 1 at bv 255, whose sector 0 is stored as it reads: slots at 0x50, and the row count 0, that of the trailer, six bytes before. At T 0 the row-count
 // test verifies it (accepted, supplied, verified). At T 1 nothing does, since no sector votes for 255 (6, no source, no confidence).
-fn supplied(t: u8) {
+fn supplied(rt: &impl Print, t: u8) -> io::Result<()> {
     let mut page = room();
     put(&mut page, 0x51, 0x0F);
     put(&mut page, 0x53, 0x0E);
@@ -56,51 +56,54 @@ fn supplied(t: u8) {
     let mut out = room();
     let options = Options::new(0, t, Options::SEARCH_LIMIT);
     let d = decode::decode_with_bv(1, 255, &page, options, &mut out);
-    marks(d.choice);
+    marks(rt, d.choice)
 }
 
 // Shifted bytes that are zero but for slots at 0x310 and the row count 4, six bytes before. The seven sectors without them are exact, and vote for 0:
 // that alone takes it (accepted, exact sectors, calibrated) while the limit leaves out the fourth slot, which ends at 0x317. From 792 on the row-count
 // test passes too (accepted, trailer row count, verified). 2,049 is out of range (20, no source, no confidence).
-fn chosen(limit: usize) {
+fn chosen(rt: &impl Print, limit: usize) -> io::Result<()> {
     let mut page = room();
     put(&mut page, 0x30A, 4);
     put(&mut page, 0x311, 0x0F);
     put(&mut page, 0x313, 0x0E);
     put(&mut page, 0x315, 0x0D);
     put(&mut page, 0x317, 0x0C);
-    choose(&page, limit);
+    choose(rt, &page, limit)
 }
 
 // Of a page the data alone, as shifted bytes.
-fn choose(page: &[u8], limit: usize) {
+fn choose(rt: &impl Print, page: &[u8], limit: usize) -> io::Result<()> {
     if page.len() != 4096 {
-        return;
+        return Ok(());
     }
     let none = [0u8; 1];
     let options = Options::new(0, Options::MIN_TRAILER_COUNT, limit);
-    marks(choice::choose_bv(1, &page[0..4080], &none[0..0], 4, options));
+    marks(
+        rt,
+        choice::choose_bv(1, &page[0..4080], &none[0..0], 4, options),
+    )
 }
 
 // An all-zero page is accepted at each limit in the range (accepted, unallocated, unallocated), and at no other (20, no source, no confidence).
-fn unallocated(limit: usize) {
+fn unallocated(rt: &impl Print, limit: usize) -> io::Result<()> {
     let page = room();
     let mut out = room();
     let none = [0u8; 1];
     let options = Options::new(0, Options::MIN_TRAILER_COUNT, limit);
     let d = decode::decode_page(1, &page, &none[0..0], options, &mut out);
-    marks(d.choice);
+    marks(rt, d.choice)
 }
 
 // The answer, the source and the confidence.
-fn marks(choice: Choice) {
+fn marks(rt: &impl Print, choice: Choice) -> io::Result<()> {
     let answer = choice.answer;
     let source = choice.source;
     let confidence = choice.confidence;
-    number(answer.number());
-    number(source.number());
-    number(confidence.number());
-    io::write_all(STDOUT_FILENO, b"\n");
+    number(rt, answer.number())?;
+    number(rt, source.number())?;
+    number(rt, confidence.number())?;
+    rt.write_all(b"\n")
 }
 
 // Zeros for a page. The contract gives the length alone.
@@ -128,7 +131,6 @@ fn put(page: &mut [u8], at: usize, b: u8) {
     }
 }
 
-fn number(n: u8) {
-    io::write_all(STDOUT_FILENO, b" ");
-    io::print_decimal(STDOUT_FILENO, n as u64);
+fn number(rt: &impl Print, n: u8) -> io::Result<()> {
+    print!(rt; " {n}")
 }
