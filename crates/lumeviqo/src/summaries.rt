@@ -3,12 +3,7 @@ ghost use Rattle.lumeviqo.specs.Calls.{ScanCall, ReplaceCall};
 
 use layout::SCAN_SIZE;
 
-pub fn lumeviqo_scan(
-    number: u64,
-    stored: &[u8],
-    shifted: &mut [u8],
-    answer: &mut [u8],
-) -> usize
+pub fn lumeviqo_scan(number: u64, stored: &[u8], shifted: &mut [u8], answer: &mut [u8]) -> usize
     ensures { ScanCall number stored.now
         shifted.old shifted.new answer.old answer.new result }
 {
