@@ -250,14 +250,11 @@ decided-sound lim plain lenient = decided-holds lim plain (Sound plain) (none-so
 pub sound-decided : (lim : ℕ) (plain : List ℕ) (lenient : Bool) (d : Decided) → d ≡ decision_of lim plain lenient → ListedAs (Sound plain) d.listed
 sound-decided lim plain lenient d e = rw e (decided-sound lim plain lenient)
 
--- the ways out of `find` below the row count 4 and from it on
-pub few-decided : (lim : ℕ) (plain : List ℕ) (n : ℕ) (lenient : Bool) (p : Prelude) (r : Decided) → r ≡ few_of p n lenient → p ≡ prelude_of lim plain n → (n ≡ 0 → ⊥) → n < 4 → r ≡ found_of lim plain n lenient
-few-decided lim plain n lenient p r e f k h = e ∙ ap (λ (x : Prelude). few_of x n lenient) f ∙ found-few lim plain n lenient k h
+-- the way out of `find` below the row count 4
+pub few-decided : (lim : ℕ) (plain : List ℕ) (n : ℕ) (lenient : Bool) (p : Prelude) (r : Decided) → n < 4 → (n ≡ 0 → ⊥) → p ≡ prelude_of lim plain n → r ≡ few_of p n lenient → r ≡ found_of lim plain n lenient
+few-decided lim plain n lenient p r h k f e = e ∙ ap (λ (x : Prelude). few_of x n lenient) f ∙ found-few lim plain n lenient k h
 
-pub many-decided : (lim : ℕ) (plain : List ℕ) (n : ℕ) (lenient : Bool) (p : Prelude) (r : Decided) → r ≡ many_of p n (scanned_directory lim plain) lenient → p ≡ prelude_of lim plain n → (n ≡ 0 → ⊥) → 4 ≤ n → r ≡ found_of lim plain n lenient
-many-decided lim plain n lenient p r e f k h = e ∙ ap (λ (x : Prelude). many_of x n (scanned_directory lim plain) lenient) f ∙ found-many lim plain n lenient k h
-
-pub ruleset finding = (few-decided, many-decided)
+pub ruleset finding = (few-decided)
 
 -- the way out of `decide` for what is no page
 pub short-decided : (lim : ℕ) (plain : List ℕ) (lenient : Bool) (r : Decided) → r ≡ verdict_refused (WrongLength (length plain)) → (length plain ≡ 4096 → ⊥) → r ≡ decision_of lim plain lenient
