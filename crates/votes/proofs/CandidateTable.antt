@@ -21,6 +21,9 @@ module _ (t : Candidates) (c : Candidate) where
   unfolding with_candidate
   candidate-kept h = pick-gt _ _ places t.len h
 
+-- the two ways out of `with`
+pub ruleset filling = (candidate-full, candidate-kept)
+
 -- ---- a table that holds a list
 
 pub record Holds (t : Candidates) (l : List Candidate) : Type 0 where

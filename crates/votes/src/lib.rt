@@ -87,6 +87,7 @@ impl Candidates {
     }
 
     // One candidate more; a full table stays as it is.
+    #[tactic(auto, using(crate::proofs::CandidateTable::filling))]
     pub fn with(self, c: Candidate) -> Self
         ensures { result ≡ with_candidate self c }
     {
