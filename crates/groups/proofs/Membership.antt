@@ -25,6 +25,9 @@ module _ (bv top : ℕ) (c : Candidate) where
   unfolding is_rival
   rival-none n h a = rw (ne_eqb c.bv bv n, lt-leb 2 c.votes h, a)
 
+  -- the four ways out of `is_rival`
+  pub ruleset rivalling = (rival-same, rival-voted, rival-anchored, rival-none)
+
   pub contest-same : c.bv ≡ bv → belongs (Contest bv top) c ≡ true
   contest-same e = rw (eq-eqb c.bv bv e)
 

@@ -37,6 +37,7 @@ fn is_member(g: Group, c: Candidate) -> bool
 }
 
 // Another candidate with two or more votes, or anchored and top.
+#[tactic(auto, using(crate::proofs::Membership::rivalling))]
 fn is_rival(bv: u8, top: u8, c: Candidate) -> bool
     ensures { result ≡ is_rival bv top c }
 {
