@@ -1,6 +1,6 @@
 -- How each rule decides: a law to a case, its premises in the order of the tests. Assumes nothing.
 use Prim.Native.Nat.{ℕ, ◌-◌, ◌≤◌, ◌<◌}
-use mathlib.Core.Path.{◌≡◌, sym}
+use mathlib.Core.Path.{◌≡◌, sym, ◌∙◌}
 use mathlib.Core.Bool.{Bool, true, false, ◌&&◌}
 use mathlib.Core.List.{List}
 use borrow.Author.Tests.{eq-eqb, ne_eqb, le-leb, lt-leb}
@@ -13,6 +13,7 @@ use Rattle.answers.specs.Answers.{no_bvs}
 use Rattle.answers.specs.Settings.{keystream, limit_fits}
 use Rattle.answers.specs.Trust.{no_grounds, ground_if}
 use Rattle.answers.specs.declared.kinds.Answer.TheVariants as answer
+use Rattle.answers.specs.declared.kinds.Bvs.{Bvs}
 use Rattle.answers.specs.declared.trust.Source.TheVariants as source
 use Rattle.answers.specs.declared.trust.Confidence.TheVariants as confidence
 use Rattle.answers.specs.declared.trust.Evidence.TheVariants as evidence
@@ -20,12 +21,15 @@ use Rattle.answers.specs.declared.trust.Grounds.{Grounds}
 use Rattle.answers.specs.declared.notices.WarningKind.TheVariants as warning
 use Rattle.answers.specs.declared.settings.Options.{Options}
 use Rattle.votes.specs.declared.Candidate.{Candidate}
+use Rattle.votes.specs.declared.Candidates.{Candidates}
 use Rattle.votes.specs.declared.Assessment.{Assessment}
 use Rattle.votes.specs.declared.polls.Poll.{Poll}
-use Rattle.votes.specs.Votes.{assessment_of, ballots, poll_of}
+use Rattle.votes.specs.Votes.{assessment_of, ballots, poll_of, listed}
 use Rattle.votes.proofs.Ballots.{poll-is}
 use Rattle.groups.specs.declared.Group.TheVariants.{Verified, Voted, Others, Rivals, Contest, Supported}
-use Rattle.groups.specs.Groups.{first_of, members, group, highest_of, bvs_of}
+use Rattle.groups.specs.Groups.{first_of, members, group, highest_of, bvs_of, kept_of}
+use Rattle.groups.proofs.GroupTable.{kept-is}
+use Rattle.choice.specs.declared.Choice.{Choice}
 use Rattle.choice.specs.Rules.{taken_of, refused_of, ambiguous_of, unverified_of, top_candidate, rule_four, is_corroborated, rule_three, is_calibrated, rule_two, sole_of, rule_one, choice_of}
 use Rattle.choice.specs.Supplied.{supplied_with, supplied_by, supplied_of}
 
@@ -123,6 +127,29 @@ module _ (number : ℕ) (lenient : Bool) (a : Assessment) where
   unfolding sole_of
   sole-contested v h = rw (ne_eqb (length (group (Rivals v.bv a.top) a)) 0 h)
 
+  -- the two ways out of `sole`, with what was kept as a variable
+  pub sole-alone :
+      (v : Candidate) (rivals : Candidates) (none : Bvs) (r : Choice)
+      → r ≡ taken_of a v source.TrailerRowCount confidence.Verified warning.Nothing none
+      → none ≡ no_bvs
+      → rivals ≡ kept_of (Rivals v.bv a.top) a.candidates
+      → rivals.len ≡ 0
+      → r ≡ sole_of number lenient a v
+  sole-alone v rivals none r e f k h =
+      e ∙ rw f (sym (sole-taken v (sym (kept-is (Rivals v.bv a.top) a.candidates rivals k).number ∙ h)))
+
+  pub sole-rivalled :
+      (v : Candidate) (rivals contest : Candidates) (r : Choice)
+      → r ≡ ambiguous_of number lenient a (listed contest)
+      → contest ≡ kept_of (Contest v.bv a.top) a.candidates
+      → rivals ≡ kept_of (Rivals v.bv a.top) a.candidates
+      → (rivals.len ≡ 0 → ⊥)
+      → r ≡ sole_of number lenient a v
+  sole-rivalled v rivals contest r e f k h =
+      e
+      ∙ rw (kept-is (Contest v.bv a.top) a.candidates contest f).list
+      (sym (sole-contested v (λ z. h ((kept-is (Rivals v.bv a.top) a.candidates rivals k).number ∙ z))))
+
   pub one-several : 2 ≤ length (group Verified a) → rule_one number lenient a ≡ ambiguous_of number lenient a (group Verified a)
   unfolding rule_one
   one-several h = rw (le-leb 2 (length (group Verified a)) h)
@@ -135,6 +162,9 @@ module _ (number : ℕ) (lenient : Bool) (a : Assessment) where
   pub one_on : length (group Verified a) < 2 → (length (group Verified a) ≡ 1 → ⊥) → rule_one number lenient a ≡ rule_two number lenient a
   unfolding rule_one
   one_on h e = rw (lt-leb 2 (length (group Verified a)) h, ne_eqb (length (group Verified a)) 1 e)
+
+-- what `sole` goes by
+pub ruleset soling = (sole-alone, sole-rivalled)
 
 -- the choice
 module _ (number : ℕ) (xs anchors : List ℕ) (n : ℕ) (o : Options) where

@@ -24,6 +24,7 @@ pub(crate) fn rule_one(number: u64, lenient: bool, a: Assessment) -> Choice
 }
 
 // One verified candidate is taken, if it has no rival.
+#[tactic(auto, using(crate::proofs::ChoiceCases::soling))]
 fn sole(number: u64, lenient: bool, a: Assessment, v: Candidate) -> Choice
     ensures { result ≡ sole_of number lenient a v }
 {
