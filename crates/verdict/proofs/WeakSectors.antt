@@ -35,6 +35,9 @@ module _ (fits : List Fit) where
   unfolding first_weak
   weak-none i e c = sym (least-none (λ s. not (confident_of (entry fits s))) 8 (λ j l. ap not (c.at j (omega arith))))
 
+-- what the loop of `first_weak` goes by
+pub ruleset weakness = (confident-none, confident-more, weak-here, weak-none)
+
 -- the warnings of the first n sectors
 module _ (number : ℕ) (fits : List Fit) (ws : Warnings) where
   pub warned-none : ws ≡ sector_warnings number fits ws 0

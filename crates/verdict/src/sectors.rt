@@ -100,6 +100,7 @@ fn refit(fits: [Fit; 8], shifted: &[u8]) -> [Fit; 8]
 }
 
 // The first sector whose step is in doubt; 8 if there is none.
+#[tactic(auto, using(crate::proofs::WeakSectors::weakness))]
 fn first_weak(fits: [Fit; 8]) -> usize
     ensures { result ≡ first_weak fits }
 {
