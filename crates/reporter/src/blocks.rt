@@ -52,7 +52,8 @@ pub(crate) fn finish(line: &[u8], kept: usize, out: &mut [u8]) -> usize
     ensures upper_bound { result ≤ length out.new }
     ensures out_after { take result out.new ≡ last_reply reply_of (take kept line.now) }
 {
-    if kept == 0 {
+    let empty = kept == 0;
+    if empty {
         return 0;
     }
     answer(&line[0..kept], out, 0)

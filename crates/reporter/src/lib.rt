@@ -5,6 +5,7 @@
 #![tactic(auto)]
 
 mod blocks;
+mod failing;
 mod running;
 
 pub use running::{Sent, run};

@@ -1,0 +1,31 @@
+// What standard error is told of a read or a write that failed.
+ghost use Rattle.std.specs.Prelude.{◌≤◌, length};
+
+use std::io::{Cursor, Error, Write};
+
+// A line with what failed and why. Where it can't be written either, nothing is told.
+pub(crate) fn fail(rt: &impl Eprint, what: &str, error: Error) {
+    let mut room = [0u8; 128];
+    let reason = reason(error, &mut room);
+    let _ = eprintln!(rt; "{what}: {reason}");
+}
+
+// The system's words alone: an error is printed with its number behind them.
+fn reason<'a>(error: Error, room: &'a mut [u8]) -> &'a str {
+    let n = tell(error, room);
+    let text = std::str::from_utf8(&room[..n]).unwrap_or("");
+    match text.split_once(" (os error ") {
+        Some((words, _)) => words,
+        None => text,
+    }
+}
+
+// As much of the error's text as there is room for, and how much that is.
+fn tell(error: Error, room: &mut [u8]) -> usize
+    ensures { result ≤ length room.new }
+{
+    let most = room.len();
+    let mut rest = room;
+    let _ = write!(rest, "{error}");
+    most.saturating_sub(rest.len())
+}
