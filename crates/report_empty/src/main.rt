@@ -1,6 +1,6 @@
 // `report` on an empty input: it writes nothing.
 #![tactic(auto)]
 
-fn main() {
-    reporter::run();
+fn main(rt: HostRuntime) {
+    reporter::run(&rt);
 }
