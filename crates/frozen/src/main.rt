@@ -11,13 +11,14 @@
 // stdin and stdout were made beside the original, by compare/driver/src/bin/freeze.rs; the program needs no original.
 #![tactic(auto)]
 
-ghost use Rattle.std.specs.Prelude.{length, ◌≡◌};
+ghost use Rattle.std.specs.Prelude.{length, ◌≡◌, ◌≤◌};
 ghost use Rattle.parse_layout.specs.ParseLayouts.{parse_size};
 
 use layout::SCAN_SIZE;
-use libc::{STDIN_FILENO, STDOUT_FILENO};
 use parse_layout::PARSE_SIZE;
 use parts::ANSWER_SIZE;
+use std::io;
+use std::io::Read;
 
 #[derive(Drop)]
 struct Question {
@@ -31,63 +32,103 @@ struct Question {
 }
 
 // Question after question. The turns are counted, since nothing says that the input ends: no run uses them up.
-fn main() {
+fn main(rt: HostRuntime) -> io::Result<()> {
     let mut turns = u64::MAX;
     while turns > 0 {
-        if !next() {
-            return;
+        if !next(&rt, &mut rt.stdin())? {
+            return Ok(());
         }
         turns -= 1;
     }
+    Ok(())
 }
 
 // Reads a question and answers it; false at the end of input.
-fn next() -> bool {
+fn next(rt: &impl Print, input: &mut impl Read) -> io::Result<bool> {
     let mut head = [0u8; 30];
-    if io::read_full(STDIN_FILENO, &mut head) < 30 {
-        return false;
+    if read_full(input, &mut head)? < 30 {
+        return Ok(false);
     }
-    with_page(&head);
-    text(b"\n");
-    true
+    with_page(rt, input, &head)?;
+    text(rt, b"\n")?;
+    Ok(true)
 }
 
 // The page, the anchors and the sector's bytes are read in their order, each by a function of its own: a buffer's length is then plain to see.
-fn with_page(head: &[u8]) {
-    let mut page = io::large_buffer();
-    read(&mut page, short(head, 22));
-    with_anchors(head, &mut page);
+fn with_page(rt: &impl Print, input: &mut impl Read, head: &[u8]) -> io::Result<()> {
+    let mut page = [0u8; 65536];
+    read(input, &mut page, short(head, 22))?;
+    with_anchors(rt, input, head, &mut page)
 }
 
-fn with_anchors(head: &[u8], page: &mut [u8]) {
-    let mut anchors = io::buffer();
-    read(&mut anchors, short(head, 24));
-    with_bytes(head, page, &anchors);
+fn with_anchors(
+    rt: &impl Print,
+    input: &mut impl Read,
+    head: &[u8],
+    page: &mut [u8],
+) -> io::Result<()> {
+    let mut anchors = [0u8; 4096];
+    read(input, &mut anchors, short(head, 24))?;
+    with_bytes(rt, input, head, page, &anchors)
 }
 
-fn with_bytes(head: &[u8], page: &mut [u8], anchors: &[u8]) {
-    let mut bytes = io::buffer();
-    read(&mut bytes, short(head, 26));
-    ask(head, page, anchors, &bytes);
+fn with_bytes(
+    rt: &impl Print,
+    input: &mut impl Read,
+    head: &[u8],
+    page: &mut [u8],
+    anchors: &[u8],
+) -> io::Result<()> {
+    let mut bytes = [0u8; 4096];
+    read(input, &mut bytes, short(head, 26))?;
+    ask(rt, head, page, anchors, &bytes)
 }
 
 // The next n bytes of the input, at the start of a buffer.
-fn read(buffer: &mut [u8], n: u16) {
-    let room = io::count(n as isize, buffer);
-    io::read_full(STDIN_FILENO, &mut buffer[..room]);
+fn read(input: &mut impl Read, buffer: &mut [u8], n: u16) -> io::Result<()> {
+    let room = within(n as usize, buffer);
+    read_full(input, &mut buffer[..room])?;
+    Ok(())
 }
 
-fn ask(head: &[u8], page: &mut [u8], anchors: &[u8], bytes: &[u8]) {
-    let p = io::count(short(head, 22) as isize, page);
-    let a = io::count(short(head, 24) as isize, anchors);
-    let b = io::count(short(head, 26) as isize, bytes);
+// Reads until the buffer is full or the input ends, and says how many bytes were put at its start.
+fn read_full(input: &mut impl Read, buffer: &mut [u8]) -> io::Result<usize> {
+    let mut done: usize = 0;
+    while done < buffer.len() {
+        let n = input.read(&mut buffer[done..])?;
+        if n == 0 {
+            break;
+        }
+        done += n;
+    }
+    Ok(done)
+}
+
+// A number of bytes, and never more than a buffer has.
+fn within(n: usize, buffer: &[u8]) -> usize
+    ensures { result ≤ length buffer.now }
+{
+    if n < buffer.len() { n } else { buffer.len() }
+}
+
+fn ask(
+    rt: &impl Print,
+    head: &[u8],
+    page: &mut [u8],
+    anchors: &[u8],
+    bytes: &[u8],
+) -> io::Result<()> {
+    let p = within(short(head, 22) as usize, page);
+    let a = within(short(head, 24) as usize, anchors);
+    let b = within(short(head, 26) as usize, bytes);
     answer(
+        rt,
         at(head, 0),
         question_in(head),
         &mut page[..p],
         &anchors[..a],
         &bytes[..b],
-    );
+    )
 }
 
 fn question_in(head: &[u8]) -> Question {
@@ -127,70 +168,90 @@ fn long(b: &[u8], k: u8) -> u64 {
     )
 }
 
-fn answer(asked: u8, q: Question, page: &mut [u8], anchors: &[u8], bytes: &[u8]) {
+fn answer(
+    rt: &impl Print,
+    asked: u8,
+    q: Question,
+    page: &mut [u8],
+    anchors: &[u8],
+    bytes: &[u8],
+) -> io::Result<()> {
     match asked {
-        1 => crc(page),
-        2 => trailer(page),
-        3 => integrity(q.number, page),
-        4 => superblock(page),
-        5 => checked_superblock(page),
-        6 => scan(q, page),
-        7 => replacement(q, page, anchors, bytes),
-        8 => decoding(q, page, anchors),
-        9 => supplied(q, page),
-        10 => parse(q, page),
-        11 => row_count(q, page),
-        12 => row(q, page),
-        13 => rows(q, page),
-        14 => supplied_summary(q, page),
-        _ => text(b"?"),
+        1 => crc(rt, page),
+        2 => trailer(rt, page),
+        3 => integrity(rt, q.number, page),
+        4 => superblock(rt, page),
+        5 => checked_superblock(rt, page),
+        6 => scan(rt, q, page),
+        7 => replacement(rt, q, page, anchors, bytes),
+        8 => decoding(rt, q, page, anchors),
+        9 => supplied(rt, q, page),
+        10 => parse(rt, q, page),
+        11 => row_count(rt, q, page),
+        12 => row(rt, q, page),
+        13 => rows(rt, q, page),
+        14 => supplied_summary(rt, q, page),
+        _ => text(rt, b"?"),
     }
 }
 
-fn trailer(page: &[u8]) {
+fn trailer(rt: &impl Print, page: &[u8]) -> io::Result<()> {
     let mut answer = answer_room();
     let n = lumeviqo::lumeviqo_trailer(page, &mut answer);
-    tell(&answer, n);
+    tell(rt, &answer, n)
 }
 
-fn integrity(number: u64, page: &[u8]) {
+fn integrity(rt: &impl Print, number: u64, page: &[u8]) -> io::Result<()> {
     let mut answer = answer_room();
     let n = lumeviqo::lumeviqo_integrity(number, page, &mut answer);
-    tell(&answer, n);
+    tell(rt, &answer, n)
 }
 
-fn superblock(page: &[u8]) {
+fn superblock(rt: &impl Print, page: &[u8]) -> io::Result<()> {
     let mut answer = answer_room();
     let n = lumeviqo::lumeviqo_superblock(page, &mut answer);
-    tell(&answer, n);
+    tell(rt, &answer, n)
 }
 
-fn checked_superblock(page: &[u8]) {
+fn checked_superblock(rt: &impl Print, page: &[u8]) -> io::Result<()> {
     let mut answer = answer_room();
     let n = lumeviqo::lumeviqo_superblock_checked(page, &mut answer);
-    tell(&answer, n);
+    tell(rt, &answer, n)
 }
 
-fn scan(q: Question, page: &[u8]) {
-    let mut shifted = io::buffer();
-    scan_to(q, page, &mut shifted);
+fn scan(rt: &impl Print, q: Question, page: &[u8]) -> io::Result<()> {
+    let mut shifted = [0u8; 4096];
+    scan_to(rt, q, page, &mut shifted)
 }
 
-fn scan_to(q: Question, page: &[u8], shifted: &mut [u8]) {
+fn scan_to(rt: &impl Print, q: Question, page: &[u8], shifted: &mut [u8]) -> io::Result<()> {
     let mut answer = answer_room();
-    let room = io::count(q.room as isize, shifted);
+    let room = within(q.room as usize, shifted);
     let n = lumeviqo::lumeviqo_scan(q.number, page, &mut shifted[..room], &mut answer);
-    tell(&answer, n);
-    crc_of(shifted, q.room);
+    tell(rt, &answer, n)?;
+    crc_of(rt, shifted, q.room)
 }
 
 // A scan, the replacement, and the decoding from the summary as it then stands.
-fn replacement(q: Question, page: &mut [u8], anchors: &[u8], bytes: &[u8]) {
+fn replacement(
+    rt: &impl Print,
+    q: Question,
+    page: &mut [u8],
+    anchors: &[u8],
+    bytes: &[u8],
+) -> io::Result<()> {
     let mut shifted = shifted_room();
-    replace_in(q, page, &mut shifted, anchors, bytes);
+    replace_in(rt, q, page, &mut shifted, anchors, bytes)
 }
 
-fn replace_in(q: Question, page: &mut [u8], shifted: &mut [u8], anchors: &[u8], bytes: &[u8]) {
+fn replace_in(
+    rt: &impl Print,
+    q: Question,
+    page: &mut [u8],
+    shifted: &mut [u8],
+    anchors: &[u8],
+    bytes: &[u8],
+) -> io::Result<()> {
     let mut scanned = answer_room();
     let mut replaced = answer_room();
     lumeviqo::lumeviqo_scan(q.number, page, shifted, &mut scanned);
@@ -203,16 +264,30 @@ fn replace_in(q: Question, page: &mut [u8], shifted: &mut [u8], anchors: &[u8], 
         bytes,
         &mut replaced,
     );
-    tell(&replaced, n);
-    crc(page);
-    crc(shifted);
-    text(b" ");
-    decode_summary(q, page, &replaced[ANSWER_SIZE..SCAN_SIZE], shifted, anchors);
+    tell(rt, &replaced, n)?;
+    crc(rt, page)?;
+    crc(rt, shifted)?;
+    text(rt, b" ")?;
+    decode_summary(
+        rt,
+        q,
+        page,
+        &replaced[ANSWER_SIZE..SCAN_SIZE],
+        shifted,
+        anchors,
+    )
 }
 
-fn decode_summary(q: Question, page: &[u8], fits: &[u8], shifted: &[u8], anchors: &[u8]) {
+fn decode_summary(
+    rt: &impl Print,
+    q: Question,
+    page: &[u8],
+    fits: &[u8],
+    shifted: &[u8],
+    anchors: &[u8],
+) -> io::Result<()> {
     let mut answer = answer_room();
-    let mut out = io::buffer();
+    let mut out = [0u8; 4096];
     let n = lumeviqo::lumeviqo_decode_summary(
         q.number,
         page,
@@ -225,18 +300,24 @@ fn decode_summary(q: Question, page: &[u8], fits: &[u8], shifted: &[u8], anchors
         &mut out,
         &mut answer,
     );
-    tell(&answer, n);
-    crc(&out);
+    tell(rt, &answer, n)?;
+    crc(rt, &out)
 }
 
-fn decoding(q: Question, page: &[u8], anchors: &[u8]) {
-    let mut out = io::buffer();
-    decode_to(q, page, anchors, &mut out);
+fn decoding(rt: &impl Print, q: Question, page: &[u8], anchors: &[u8]) -> io::Result<()> {
+    let mut out = [0u8; 4096];
+    decode_to(rt, q, page, anchors, &mut out)
 }
 
-fn decode_to(q: Question, page: &[u8], anchors: &[u8], out: &mut [u8]) {
+fn decode_to(
+    rt: &impl Print,
+    q: Question,
+    page: &[u8],
+    anchors: &[u8],
+    out: &mut [u8],
+) -> io::Result<()> {
     let mut answer = answer_room();
-    let room = io::count(q.room as isize, out);
+    let room = within(q.room as usize, out);
     let n = lumeviqo::lumeviqo_decode(
         q.number,
         page,
@@ -247,13 +328,13 @@ fn decode_to(q: Question, page: &[u8], anchors: &[u8], out: &mut [u8]) {
         &mut out[..room],
         &mut answer,
     );
-    tell(&answer, n);
-    crc_of(out, q.room);
+    tell(rt, &answer, n)?;
+    crc_of(rt, out, q.room)
 }
 
-fn supplied(q: Question, page: &[u8]) {
+fn supplied(rt: &impl Print, q: Question, page: &[u8]) -> io::Result<()> {
     let mut answer = answer_room();
-    let mut out = io::buffer();
+    let mut out = [0u8; 4096];
     let n = lumeviqo::lumeviqo_decode_supplied(
         q.number,
         page,
@@ -264,21 +345,27 @@ fn supplied(q: Question, page: &[u8]) {
         &mut out,
         &mut answer,
     );
-    tell(&answer, n);
-    crc(&out);
+    tell(rt, &answer, n)?;
+    crc(rt, &out)
 }
 
 // A scan, and the decoding from its summary with the bv of the question.
-fn supplied_summary(q: Question, page: &[u8]) {
+fn supplied_summary(rt: &impl Print, q: Question, page: &[u8]) -> io::Result<()> {
     let mut shifted = shifted_room();
     let mut scanned = answer_room();
     lumeviqo::lumeviqo_scan(q.number, page, &mut shifted, &mut scanned);
-    supplied_from(q, page, &scanned[ANSWER_SIZE..SCAN_SIZE], &shifted);
+    supplied_from(rt, q, page, &scanned[ANSWER_SIZE..SCAN_SIZE], &shifted)
 }
 
-fn supplied_from(q: Question, page: &[u8], fits: &[u8], shifted: &[u8]) {
+fn supplied_from(
+    rt: &impl Print,
+    q: Question,
+    page: &[u8],
+    fits: &[u8],
+    shifted: &[u8],
+) -> io::Result<()> {
     let mut answer = answer_room();
-    let mut out = io::buffer();
+    let mut out = [0u8; 4096];
     let n = lumeviqo::lumeviqo_decode_supplied_summary(
         q.number,
         page,
@@ -291,23 +378,23 @@ fn supplied_from(q: Question, page: &[u8], fits: &[u8], shifted: &[u8]) {
         &mut out,
         &mut answer,
     );
-    tell(&answer, n);
-    crc(&out);
+    tell(rt, &answer, n)?;
+    crc(rt, &out)
 }
 
-fn parse(q: Question, plain: &[u8]) {
+fn parse(rt: &impl Print, q: Question, plain: &[u8]) -> io::Result<()> {
     let mut answer = answer_room();
     let n = lumeviqo::lumeviqo_parse(q.number, plain, q.leniency, q.limit, &mut answer);
-    tell(&answer, n);
+    tell(rt, &answer, n)
 }
 
-fn row_count(q: Question, plain: &[u8]) {
+fn row_count(rt: &impl Print, q: Question, plain: &[u8]) -> io::Result<()> {
     let mut answer = answer_room();
     let n = lumeviqo::lumeviqo_row_count(q.number, plain, q.leniency, q.limit, &mut answer);
-    tell(&answer, n);
+    tell(rt, &answer, n)
 }
 
-fn row(q: Question, plain: &[u8]) {
+fn row(rt: &impl Print, q: Question, plain: &[u8]) -> io::Result<()> {
     let mut answer = answer_room();
     let n = lumeviqo::lumeviqo_row(
         q.number,
@@ -317,13 +404,13 @@ fn row(q: Question, plain: &[u8]) {
         q.place as usize,
         &mut answer,
     );
-    tell(&answer, n);
+    tell(rt, &answer, n)
 }
 
-fn rows(q: Question, plain: &[u8]) {
+fn rows(rt: &impl Print, q: Question, plain: &[u8]) -> io::Result<()> {
     let mut answer = answer_room();
     let n = lumeviqo::lumeviqo_rows(q.number, plain, q.leniency, q.limit, &mut answer);
-    tell(&answer, n);
+    tell(rt, &answer, n)
 }
 
 // Zeros. The contracts give the lengths alone.
@@ -341,29 +428,29 @@ fn answer_room() -> [u8; PARSE_SIZE]
 }
 
 // What a call wrote.
-fn tell(answer: &[u8], n: usize) {
-    let n = io::count((n % 65536) as isize, answer);
-    hex(&answer[..n]);
+fn tell(rt: &impl Print, answer: &[u8], n: usize) -> io::Result<()> {
+    let n = within(n, answer);
+    hex(rt, &answer[..n])
 }
 
 // The CRC of the first n bytes.
-fn crc_of(bytes: &[u8], n: u16) {
-    let n = io::count(n as isize, bytes);
-    crc(&bytes[..n]);
+fn crc_of(rt: &impl Print, bytes: &[u8], n: u16) -> io::Result<()> {
+    let n = within(n as usize, bytes);
+    crc(rt, &bytes[..n])
 }
 
-fn crc(bytes: &[u8]) {
-    text(b" ");
-    io::print_hex(STDOUT_FILENO, lumeviqo::lumeviqo_crc32(bytes) as u64, 8);
+fn crc(rt: &impl Print, bytes: &[u8]) -> io::Result<()> {
+    let crc = lumeviqo::lumeviqo_crc32(bytes);
+    print!(rt; " {crc:08x}")
 }
 
-fn hex(bytes: &[u8]) {
-    let mut digits = io::large_buffer();
+fn hex(rt: &impl Print, bytes: &[u8]) -> io::Result<()> {
+    let mut digits = [0u8; 65536];
     let n = digits::write_hex(bytes, &mut digits);
-    let n = io::count((n % 65536) as isize, &digits);
-    text(&digits[..n]);
+    let n = within(n, &digits);
+    text(rt, &digits[..n])
 }
 
-fn text(s: &[u8]) {
-    io::write_all(STDOUT_FILENO, s);
+fn text(rt: &impl Print, s: &[u8]) -> io::Result<()> {
+    rt.write_all(s)
 }
