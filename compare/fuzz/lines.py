@@ -288,8 +288,8 @@ class Runs:
         self.runs["report killed"] += 1
 
     def reader_gone(self):
-        """Nobody reads its output: by default the system ends it by SIGPIPE."""
-        must(self.unread() == (-signal.SIGPIPE, b""), "a report without a reader ends by SIGPIPE")
+        """Nobody reads its output: it ends with a message, since the kit's runtime ignores SIGPIPE."""
+        must(self.unread() == (0, b"report: standard output: Broken pipe\n"), "a report without a reader says so")
         self.runs["reader gone"] += 1
 
     def write_failed(self):
