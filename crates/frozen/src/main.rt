@@ -1,4 +1,4 @@
-// Frozen answers: questions put to the library through its C functions, and what the original answered to each. A question is a head of 30 bytes,
+// Frozen answers: questions put to the functions that `lumeviqo_c` hands on to C, and what the original answered to each. A question is a head of 30 bytes,
 // then a page, anchors and a sector's bytes, each as long as the head says. The head, the least byte of a number first:
 //
 //   0   1  what is asked, by the numbers of `answer` below      20  2  sector or row

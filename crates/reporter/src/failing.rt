@@ -1,7 +1,7 @@
 // What standard error is told of a read or a write that failed.
 ghost use Rattle.std.specs.Prelude.{◌≤◌, length};
 
-use std::io::{Cursor, Error, Write};
+use std::io::{Error, Write};
 
 // A line with what failed and why. Where it can't be written either, nothing is told.
 pub(crate) fn fail(rt: &impl Eprint, what: &str, error: Error) {
