@@ -5,11 +5,11 @@ use mathlib.Core.Path.{◌≡◌, refl, sym, ap, ap₂, ◌∙◌}
 use mathlib.Core.List.{List, [], ◌∷◌}
 use native.Mathlib.Omega.{arith}
 use lib.ListN.{get_or}
+use Rattle.std.specs.Prelude.{Some, None}
 use Rattle.answers.specs.declared.kinds.Reason.{Reason}
 use Rattle.answers.specs.declared.kinds.Reason.TheVariants.{CountBelowFour, FewerThanEightLive, Unconfirmed}
-use Rattle.answers.specs.declared.kinds.Answer.{Answer}
-use Rattle.answers.specs.declared.kinds.Answer.TheVariants.{Accepted, WrongPageLength, WrongBufferLength, BadCrc, BadTrailer, AmbiguousCalibration, KeystreamUnverified, LowConfidenceKeystream, NoSlotDirectory, UnknownPrelude, SlotDirectoryTruncated, AmbiguousSlotDirectory, SlotOffsetInDirectory, BadMagic, BadReplacement, NoSuchRow, MalformedLine, LimitOutOfRange}
-use Rattle.answers.specs.Answers.{reason_number, number_of, values_of}
+use Rattle.answers.specs.declared.kinds.Refusal.TheVariants.{WrongPageLength, WrongBufferLength, BadCrc, BadTrailer, AmbiguousCalibration, KeystreamUnverified, LowConfidenceKeystream, NoSlotDirectory, UnknownPrelude, SlotDirectoryTruncated, AmbiguousSlotDirectory, SlotOffsetInDirectory, BadMagic, BadReplacement, NoSuchRow, MalformedLine, LimitOutOfRange}
+use Rattle.answers.specs.Answers.{Answer, reason_number, number_of, values_of}
 
 -- the way back: the reason of a number, and the answer of a number and values
 reason_from : ℕ → Reason
@@ -21,29 +21,29 @@ v l i = get_or l i 0
 answer_from : ℕ → List ℕ → Answer
 answer_from n l =
     get_or
-    (Accepted
-    ∷ WrongPageLength (v l 0)
-    ∷ WrongBufferLength (v l 0)
-    ∷ BadCrc (v l 0) (v l 1) (v l 2)
-    ∷ BadTrailer (v l 0)
-    ∷ AmbiguousCalibration (v l 0)
-    ∷ KeystreamUnverified (v l 0) (v l 1)
-    ∷ LowConfidenceKeystream (v l 0) (v l 1) (v l 2) (v l 3)
-    ∷ NoSlotDirectory (v l 0) (reason_from (v l 1))
-    ∷ UnknownPrelude (v l 0)
-    ∷ SlotDirectoryTruncated (v l 0) (v l 1) (v l 2) (v l 3)
-    ∷ AmbiguousSlotDirectory (v l 0)
-    ∷ SlotOffsetInDirectory (v l 0) (v l 1) (v l 2)
-    ∷ BadMagic (v l 0)
-    ∷ BadReplacement (v l 0)
-    ∷ MalformedLine
-    ∷ NoSuchRow (v l 0)
-    ∷ MalformedLine
-    ∷ MalformedLine
-    ∷ MalformedLine
+    (None
+    ∷ Some (WrongPageLength (v l 0))
+    ∷ Some (WrongBufferLength (v l 0))
+    ∷ Some (BadCrc (v l 0) (v l 1) (v l 2))
+    ∷ Some (BadTrailer (v l 0))
+    ∷ Some (AmbiguousCalibration (v l 0))
+    ∷ Some (KeystreamUnverified (v l 0) (v l 1))
+    ∷ Some (LowConfidenceKeystream (v l 0) (v l 1) (v l 2) (v l 3))
+    ∷ Some (NoSlotDirectory (v l 0) (reason_from (v l 1)))
+    ∷ Some (UnknownPrelude (v l 0))
+    ∷ Some (SlotDirectoryTruncated (v l 0) (v l 1) (v l 2) (v l 3))
+    ∷ Some (AmbiguousSlotDirectory (v l 0))
+    ∷ Some (SlotOffsetInDirectory (v l 0) (v l 1) (v l 2))
+    ∷ Some (BadMagic (v l 0))
+    ∷ Some (BadReplacement (v l 0))
+    ∷ Some MalformedLine
+    ∷ Some (NoSuchRow (v l 0))
+    ∷ Some MalformedLine
+    ∷ Some MalformedLine
+    ∷ Some MalformedLine
     ∷ [])
     n
-    (LimitOutOfRange (v l 0))
+    (Some (LimitOutOfRange (v l 0)))
 
 reason-back : (r : Reason) → reason_from (reason_number r) ≡ r
 unfolding reason_from
@@ -53,24 +53,24 @@ reason-back Unconfirmed = refl
 
 answer_back : (a : Answer) → answer_from (number_of a) (values_of a) ≡ a
 unfolding answer_from
-answer_back Accepted = refl
-answer_back (WrongPageLength length) = refl
-answer_back (WrongBufferLength length) = refl
-answer_back (BadCrc page stored computed) = refl
-answer_back (BadTrailer page) = refl
-answer_back (AmbiguousCalibration page) = refl
-answer_back (KeystreamUnverified page bv) = refl
-answer_back (LowConfidenceKeystream page sector peak runner) = refl
-answer_back (NoSlotDirectory page reason) = ap (NoSlotDirectory page) (reason-back reason)
-answer_back (UnknownPrelude page) = refl
-answer_back (SlotDirectoryTruncated page found expected stop) = refl
-answer_back (AmbiguousSlotDirectory page) = refl
-answer_back (SlotOffsetInDirectory page offset end) = refl
-answer_back (BadMagic magic) = refl
-answer_back (BadReplacement sector) = refl
-answer_back (NoSuchRow row) = refl
-answer_back MalformedLine = refl
-answer_back (LimitOutOfRange limit) = refl
+answer_back None = refl
+answer_back (Some (WrongPageLength length)) = refl
+answer_back (Some (WrongBufferLength length)) = refl
+answer_back (Some (BadCrc page stored computed)) = refl
+answer_back (Some (BadTrailer page)) = refl
+answer_back (Some (AmbiguousCalibration page)) = refl
+answer_back (Some (KeystreamUnverified page bv)) = refl
+answer_back (Some (LowConfidenceKeystream page sector peak runner)) = refl
+answer_back (Some (NoSlotDirectory page reason)) = ap (λ r. Some (NoSlotDirectory page r)) (reason-back reason)
+answer_back (Some (UnknownPrelude page)) = refl
+answer_back (Some (SlotDirectoryTruncated page found expected stop)) = refl
+answer_back (Some (AmbiguousSlotDirectory page)) = refl
+answer_back (Some (SlotOffsetInDirectory page offset end)) = refl
+answer_back (Some (BadMagic magic)) = refl
+answer_back (Some (BadReplacement sector)) = refl
+answer_back (Some (NoSuchRow row)) = refl
+answer_back (Some MalformedLine) = refl
+answer_back (Some (LimitOutOfRange limit)) = refl
 
 -- answers of equal number and values are equal
 pub same_answer : (a b : Answer) → number_of a ≡ number_of b → values_of a ≡ values_of b → a ≡ b

@@ -1,5 +1,6 @@
 -- What each answer is called by number, and what stands beside it.
 pub mod Values
+pub mod Tables
 pub mod Answers
 pub mod Trust
 pub mod Warns

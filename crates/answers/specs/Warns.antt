@@ -1,16 +1,13 @@
 -- The warnings: each has the number of the answer of its kind. It is the answer that a strict reading gives, but for row counts 1 to 3 with several
 -- starts, where that is 8 and the warning 11. Assumes nothing.
-use Rattle.std.specs.Prelude.{ℕ, ◌+◌, List, [], ◌∷◌, leb, set, replicate}
-use Rattle.lists.specs.Cases.{pick}
+use Rattle.std.specs.Prelude.{ℕ, List, [], ◌∷◌}
 use Rattle.answers.specs.declared.notices.WarningKind.{WarningKind}
 use Rattle.answers.specs.declared.notices.WarningKind.TheVariants as warning
 use Rattle.answers.specs.declared.notices.Warning.{Warning}
-use Rattle.answers.specs.declared.notices.Warnings.{Warnings}
-use Rattle.answers.specs.declared.notices.ParseWarnings.{ParseWarnings}
+use Rattle.answers.specs.declared.tables.Table.{Table}
+use Rattle.answers.specs.Tables.{with_item}
 
--- 0 in an unused place
 abbrev pub warning_number : WarningKind → ℕ
-warning_number warning.Nothing = 0
 warning_number warning.BadCrc = 3
 warning_number warning.BadTrailer = 4
 warning_number (warning.AmbiguousCalibration chosen) = 5
@@ -24,7 +21,6 @@ warning_number (warning.SlotOffsetsInDirectory dropped) = 12
 
 -- the values that stand beside the page number
 abbrev pub warning_values : WarningKind → List ℕ
-warning_values warning.Nothing = []
 warning_values warning.BadCrc = []
 warning_values warning.BadTrailer = []
 warning_values (warning.AmbiguousCalibration chosen) = chosen ∷ []
@@ -36,19 +32,13 @@ warning_values (warning.SlotDirectoryTruncated found expected) = found ∷ expec
 warning_values warning.AmbiguousSlotDirectory = []
 warning_values (warning.SlotOffsetsInDirectory dropped) = dropped ∷ []
 
-abbrev pub blank_warning : Warning
-blank_warning = record { page = 0; kind = warning.Nothing }
+-- the warnings of a decoding, ten at most, and those of a parse
+abbrev pub Warnings : Type 0
+Warnings = Table Warning 10
 
--- the warnings of a decoding, ten at most; a full table stays as it is
-abbrev pub no_warnings : Warnings
-no_warnings = record { items = replicate 10 blank_warning; len = 0 }
+abbrev pub ParseWarnings : Type 0
+ParseWarnings = Table Warning 1026
 
-unfoldable pub with_warning : Warnings → ℕ → WarningKind → Warnings
-with_warning t page kind = pick (leb 10 t.len) t (record { items = set t.items t.len (record { page = page; kind = kind }); len = t.len + 1 })
-
--- the warnings of a parse: room for 1026
-unfoldable pub no_parse_warnings : ParseWarnings
-no_parse_warnings = record { items = replicate 1026 blank_warning; len = 0 }
-
-unfoldable pub with_parse_warning : ParseWarnings → ℕ → WarningKind → ParseWarnings
-with_parse_warning t page kind = pick (leb 1026 t.len) t (record { items = set t.items t.len (record { page = page; kind = kind }); len = t.len + 1 })
+-- one warning more of a page; a full table stays as it is
+abbrev pub with_warning : {n : ℕ} → Table Warning n → ℕ → WarningKind → Table Warning n
+with_warning t page kind = with_item t (record { page = page; kind = kind })

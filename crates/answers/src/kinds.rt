@@ -1,8 +1,9 @@
-// The answers, each with its number and values: document 01's table without its 15 (request #107), and 20 of request #109.
+// The refusals, each with its number and values: document 01's table without its 15 (request #107), and 20 of request #109.
 ghost use Rattle.std.specs.Prelude.{◌≡◌};
 ghost use Rattle.answers.specs.Values.{placed};
-ghost use Rattle.answers.specs.Answers.{number_of, values_of, is_accepted, reason_number, no_bvs, with_bv};
+ghost use Rattle.answers.specs.Answers.{refusal_number, refusal_values, reason_number};
 
+use crate::tables::Table;
 use crate::values::Values;
 
 // Why slot-like data is no directory.
@@ -25,10 +26,9 @@ impl Reason {
     }
 }
 
-// What became of a page, a replacement, a row or a line. The candidates of an ambiguous calibration stand beside it.
+// Why a page, a replacement, a row or a line is refused. The candidates of an ambiguous calibration stand beside it.
 #[derive(Clone, Copy)]
-pub enum Answer {
-    Accepted,
+pub enum Refusal {
     WrongPageLength(usize),
     WrongBufferLength(usize),
     BadCrc {
@@ -72,127 +72,76 @@ pub enum Answer {
     LimitOutOfRange(usize),
 }
 
-impl Answer {
-    // Document 01's number of the answer.
+impl Refusal {
+    // Document 01's number of the refusal.
     pub fn number(self) -> u8
-        ensures { result ≡ number_of self }
+        ensures { result ≡ refusal_number self }
     {
         match self {
-            Answer::Accepted => 0,
-            Answer::WrongPageLength(_) => 1,
-            Answer::WrongBufferLength(_) => 2,
-            Answer::BadCrc {
-                page: _,
-                stored: _,
-                computed: _,
-            } => 3,
-            Answer::BadTrailer(_) => 4,
-            Answer::AmbiguousCalibration(_) => 5,
-            Answer::KeystreamUnverified { page: _, bv: _ } => 6,
-            Answer::LowConfidenceKeystream {
-                page: _,
-                sector: _,
-                peak: _,
-                runner_up: _,
-            } => 7,
-            Answer::NoSlotDirectory { page: _, reason: _ } => 8,
-            Answer::UnknownPrelude(_) => 9,
-            Answer::SlotDirectoryTruncated {
-                page: _,
-                found: _,
-                expected: _,
-                stop: _,
-            } => 10,
-            Answer::AmbiguousSlotDirectory(_) => 11,
-            Answer::SlotOffsetInDirectory {
-                page: _,
-                offset: _,
-                end: _,
-            } => 12,
-            Answer::BadMagic(_) => 13,
-            Answer::BadReplacement(_) => 14,
-            Answer::NoSuchRow(_) => 16,
-            Answer::MalformedLine => 17,
-            Answer::LimitOutOfRange(_) => 20,
+            Refusal::WrongPageLength(_) => 1,
+            Refusal::WrongBufferLength(_) => 2,
+            Refusal::BadCrc { .. } => 3,
+            Refusal::BadTrailer(_) => 4,
+            Refusal::AmbiguousCalibration(_) => 5,
+            Refusal::KeystreamUnverified { .. } => 6,
+            Refusal::LowConfidenceKeystream { .. } => 7,
+            Refusal::NoSlotDirectory { .. } => 8,
+            Refusal::UnknownPrelude(_) => 9,
+            Refusal::SlotDirectoryTruncated { .. } => 10,
+            Refusal::AmbiguousSlotDirectory(_) => 11,
+            Refusal::SlotOffsetInDirectory { .. } => 12,
+            Refusal::BadMagic(_) => 13,
+            Refusal::BadReplacement(_) => 14,
+            Refusal::NoSuchRow(_) => 16,
+            Refusal::MalformedLine => 17,
+            Refusal::LimitOutOfRange(_) => 20,
         }
     }
 
-    // What the answer returns beside its number.
+    // What it returns beside its number.
     pub fn values(self) -> Values
-        ensures { result ≡ placed (values_of self) }
+        ensures { result ≡ placed (refusal_values self) }
     {
         match self {
-            Answer::Accepted => Values::none(),
-            Answer::WrongPageLength(length) => Values::one(length as u64),
-            Answer::WrongBufferLength(length) => Values::one(length as u64),
-            Answer::BadCrc {
+            Refusal::WrongPageLength(length) => Values::of(&[length as u64]),
+            Refusal::WrongBufferLength(length) => Values::of(&[length as u64]),
+            Refusal::BadCrc {
                 page,
                 stored,
                 computed,
-            } => Values::three(page, stored as u64, computed as u64),
-            Answer::BadTrailer(page) => Values::one(page),
-            Answer::AmbiguousCalibration(page) => Values::one(page),
-            Answer::KeystreamUnverified { page, bv } => Values::two(page, bv as u64),
-            Answer::LowConfidenceKeystream {
+            } => Values::of(&[page, stored as u64, computed as u64]),
+            Refusal::BadTrailer(page) => Values::of(&[page]),
+            Refusal::AmbiguousCalibration(page) => Values::of(&[page]),
+            Refusal::KeystreamUnverified { page, bv } => Values::of(&[page, bv as u64]),
+            Refusal::LowConfidenceKeystream {
                 page,
                 sector,
                 peak,
                 runner_up,
-            } => Values::four(page, sector as u64, peak as u64, runner_up as u64),
-            Answer::NoSlotDirectory { page, reason } => Values::two(page, reason.number() as u64),
-            Answer::UnknownPrelude(page) => Values::one(page),
-            Answer::SlotDirectoryTruncated {
+            } => Values::of(&[page, sector as u64, peak as u64, runner_up as u64]),
+            Refusal::NoSlotDirectory { page, reason } => Values::of(&[
+                page,
+                reason.number() as u64,
+            ]),
+            Refusal::UnknownPrelude(page) => Values::of(&[page]),
+            Refusal::SlotDirectoryTruncated {
                 page,
                 found,
                 expected,
                 stop,
-            } => Values::four(page, found as u64, expected as u64, stop as u64),
-            Answer::AmbiguousSlotDirectory(page) => Values::one(page),
-            Answer::SlotOffsetInDirectory { page, offset, end } => {
-                Values::three(page, offset as u64, end as u64)
+            } => Values::of(&[page, found as u64, expected as u64, stop as u64]),
+            Refusal::AmbiguousSlotDirectory(page) => Values::of(&[page]),
+            Refusal::SlotOffsetInDirectory { page, offset, end } => {
+                Values::of(&[page, offset as u64, end as u64])
             }
-            Answer::BadMagic(magic) => Values::one(magic as u64),
-            Answer::BadReplacement(sector) => Values::one(sector as u64),
-            Answer::NoSuchRow(row) => Values::one(row as u64),
-            Answer::MalformedLine => Values::none(),
-            Answer::LimitOutOfRange(limit) => Values::one(limit as u64),
+            Refusal::BadMagic(magic) => Values::of(&[magic as u64]),
+            Refusal::BadReplacement(sector) => Values::of(&[sector as u64]),
+            Refusal::NoSuchRow(row) => Values::of(&[row as u64]),
+            Refusal::MalformedLine => Values::of(&[]),
+            Refusal::LimitOutOfRange(limit) => Values::of(&[limit as u64]),
         }
-    }
-
-    // Whether nothing was refused.
-    pub fn accepted(self) -> bool
-        ensures { result ≡ is_accepted self }
-    {
-        self.number() == 0
     }
 }
 
 // Values of bv: the candidates of an ambiguous calibration, ascending.
-#[derive(Clone, Copy)]
-pub struct Bvs {
-    pub items: [u8; 8],
-    pub len: usize,
-}
-
-impl Bvs {
-    pub fn none() -> Self
-        ensures { result ≡ no_bvs }
-    {
-        let items = [0u8; 8];
-        Bvs { items, len: 0 }
-    }
-
-    // One value more; a full table stays as it is.
-    pub fn with(self, bv: u8) -> Self
-        ensures { result ≡ with_bv self bv }
-    {
-        let at = self.len;
-        if 8 <= at {
-            return self;
-        }
-        let mut next = self;
-        next.items[at] = bv;
-        next.len = at + 1;
-        next
-    }
-}
+pub type Bvs = Table<u8, 8>;

@@ -1,14 +1,14 @@
 // Where a bv came from, how far it can be trusted, and on what grounds.
 ghost use Rattle.std.specs.Prelude.{◌≡◌};
 ghost use Rattle.answers.specs.Values.{placed};
-ghost use Rattle.answers.specs.Trust.{source_number, confidence_number, evidence_number, evidence_values, no_grounds, with_ground, ground_if};
+ghost use Rattle.answers.specs.Trust.{source_number, confidence_number, evidence_number, evidence_values};
 
+use crate::tables::Table;
 use crate::values::Values;
 
-// How a page's bv was determined; of a refusal, `Refused`.
+// How a page's bv was determined.
 #[derive(Clone, Copy)]
 pub enum Source {
-    Refused,
     TrailerRowCount,
     ExactSectors,
     Histogram,
@@ -22,7 +22,6 @@ impl Source {
         ensures { result ≡ source_number self }
     {
         match self {
-            Source::Refused => 0,
             Source::TrailerRowCount => 1,
             Source::ExactSectors => 2,
             Source::Histogram => 3,
@@ -33,10 +32,9 @@ impl Source {
     }
 }
 
-// How far a page's bv can be trusted, the least first; of a refusal, `Refused`.
+// How far a page's bv can be trusted, the least first.
 #[derive(Clone, Copy)]
 pub enum Confidence {
-    Refused,
     Unallocated,
     Unverified,
     Corroborated,
@@ -49,7 +47,6 @@ impl Confidence {
         ensures { result ≡ confidence_number self }
     {
         match self {
-            Confidence::Refused => 0,
             Confidence::Unallocated => 1,
             Confidence::Unverified => 2,
             Confidence::Corroborated => 3,
@@ -59,10 +56,9 @@ impl Confidence {
     }
 }
 
-// One piece of evidence for a bv; an unused place of the table has `Nothing`.
+// One piece of evidence for a bv.
 #[derive(Clone, Copy)]
 pub enum Evidence {
-    Nothing,
     TrailerRowCount,
     ExactSectors { count: u16, dissent: u16 },
     BlockAnchor,
@@ -75,14 +71,10 @@ impl Evidence {
         ensures { result ≡ evidence_number self }
     {
         match self {
-            Evidence::Nothing => 0,
             Evidence::TrailerRowCount => 1,
-            Evidence::ExactSectors {
-                count: _,
-                dissent: _,
-            } => 2,
+            Evidence::ExactSectors { .. } => 2,
             Evidence::BlockAnchor => 3,
-            Evidence::ZeroMass { zeros: _, lead: _ } => 4,
+            Evidence::ZeroMass { .. } => 4,
             Evidence::Unallocated => 5,
         }
     }
@@ -91,61 +83,17 @@ impl Evidence {
         ensures { result ≡ placed (evidence_values self) }
     {
         match self {
-            Evidence::Nothing => Values::none(),
-            Evidence::TrailerRowCount => Values::none(),
-            Evidence::ExactSectors { count, dissent } => Values::two(count as u64, dissent as u64),
-            Evidence::BlockAnchor => Values::none(),
-            Evidence::ZeroMass { zeros, lead } => Values::two(zeros as u64, lead as u64),
-            Evidence::Unallocated => Values::none(),
+            Evidence::TrailerRowCount => Values::of(&[]),
+            Evidence::ExactSectors { count, dissent } => Values::of(&[
+                count as u64,
+                dissent as u64,
+            ]),
+            Evidence::BlockAnchor => Values::of(&[]),
+            Evidence::ZeroMass { zeros, lead } => Values::of(&[zeros as u64, lead as u64]),
+            Evidence::Unallocated => Values::of(&[]),
         }
     }
-}
-
-// A place of the table.
-#[derive(Clone, Copy)]
-pub struct Ground {
-    pub evidence: Evidence,
 }
 
 // The evidence for a bv, in document 01's order.
-#[derive(Clone, Copy)]
-pub struct Grounds {
-    pub items: [Ground; 4],
-    pub len: usize,
-}
-
-impl Grounds {
-    pub fn none() -> Self
-        ensures { result ≡ no_grounds }
-    {
-        let blank = Ground {
-            evidence: Evidence::Nothing,
-        };
-        let items = [blank; 4];
-        Grounds { items, len: 0 }
-    }
-
-    // One piece of evidence more; a full table stays as it is.
-    pub fn with(self, evidence: Evidence) -> Self
-        ensures { result ≡ with_ground self evidence }
-    {
-        let at = self.len;
-        if 4 <= at {
-            return self;
-        }
-        let mut next = self;
-        next.items[at] = Ground { evidence };
-        next.len = at + 1;
-        next
-    }
-
-    // The same where a test passed.
-    pub fn with_if(self, test: bool, evidence: Evidence) -> Self
-        ensures { result ≡ ground_if test self evidence }
-    {
-        if test {
-            return self.with(evidence);
-        }
-        self
-    }
-}
+pub type Grounds = Table<Evidence, 4>;

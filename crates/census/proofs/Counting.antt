@@ -1,22 +1,22 @@
 -- The other sectors one after the other, each counted by its quarters. Assumes nothing.
-use Prim.Native.Nat.{ℕ, ◌+◌, ◌-◌, ◌*◌, ◌/◌, ◌≤◌, ◌<◌}
+use Prim.Native.Nat.{ℕ, ◌+◌, ◌-◌, ◌*◌, ◌%◌, ◌≤◌, ◌<◌}
 use mathlib.Core.Path.{◌≡◌, refl, sym, ap, ◌∙◌}
 use mathlib.Core.Bool.{true, false}
 use mathlib.Core.List.{List, [], ◌∷◌, ◌++◌}
 use native.Mathlib.Decide.{ℕ_discrete}
 use native.Mathlib.Numerals.{add-one}
 use native.Mathlib.Omega.{arith}
-use lib.ListN.{length, get_or, set, take, drop, replicate, length-take, length-drop, length-set, get_or-replicate}
+use lib.ListN.{length, get_or, take, drop, length-take, length-drop, length-set}
 use lib.Seq.{take-suc, take_all, get_or-drop, drop-drop, get_or-set_same, get_or-set_other}
 use Rattle.lists.specs.Bytes.{byte_at}
 use Rattle.lists.specs.Counts.{count, sum}
 use Rattle.lists.proofs.Picks.{pick-case}
 use Rattle.lists.proofs.Count.{count_none, count-le, count-halves, count-last-same, count-last-other}
-use Rattle.lists.proofs.Each.{each-ext}
 use Rattle.sector.specs.declared.fits.Fit.{Fit}
 use Rattle.summary.specs.Page.{sector_end, part}
 use Rattle.census.specs.Told.{told_exact, other_count}
-use Rattle.census.specs.Tables.{AtMost, Added, Quarters, Four, sums_of, with_others}
+use Rattle.census.specs.declared.quarters.Quarters.{Quarters}
+use Rattle.census.specs.Tables.{held, with_one, Added}
 use Rattle.census.proofs.Noted.{sum_more, sum-few}
 
 -- ---- one byte more in a table
@@ -24,48 +24,39 @@ use Rattle.census.proofs.Noted.{sum_more, sum-few}
 pub added_none : (bytes : List ℕ) (start : ℕ) (table : List ℕ) → length table ≡ 256 → Added bytes start 0 table table
 added_none bytes start table e = record { long = e; at = λ v h. omega (arith, count_none v) }
 
-module _ (bytes : List ℕ) (start n : ℕ) (before after : List ℕ) (t : Added bytes start n before after) where
-  pub added-le : (m : ℕ) → AtMost m before → (v : ℕ) → v < 256 → byte_at after v ≤ m + n
-  added-le m b v h = omega (arith, t.at v h, b.small v h, count-le v (take n (drop start bytes)), length-take n (drop start bytes))
+pub added_more :
+    (bytes : List ℕ) (start n : ℕ) (before after : List ℕ) {x : ℕ} {table : List ℕ}
+    → Added bytes start n before after
+    → table ≡ with_one after x
+    → x ≡ get_or bytes (n + start) 0
+    → x < 256
+    → n + start < length bytes
+    → Added bytes start (n + 1) before table
+added_more bytes start n before after {x} {table} t one e k h =
+    record { long = ap length one ∙ length-set after x ((get_or after x 0 + 1) % 65536) ∙ t.long; at = λ v q. go v q (ℕ_discrete v x) }
+  where
+    more : take (n + 1) (drop start bytes) ≡ take n (drop start bytes) ++ (x ∷ [])
+    more =
+        ap (λ (i : ℕ). take i (drop start bytes)) (add-one n)
+        ∙ take-suc (drop start bytes) n 0 (omega (arith, length-drop start bytes))
+        ∙ ap (λ (y : ℕ). take n (drop start bytes) ++ (y ∷ [])) (get_or-drop start bytes n 0 ∙ ap (λ (i : ℕ). get_or bytes i 0) (omega arith) ∙ sym e)
 
-  pub added_more :
-      (x : ℕ) → x ≡ get_or bytes (n + start) 0 → x < 256 → n + start < length bytes → Added bytes start (n + 1) before (set after x (get_or after x 0 + 1))
-  added_more x e k h = record { long = length-set after x (get_or after x 0 + 1) ∙ t.long; at = λ v q. go v q (ℕ_discrete v x) }
-    where
-      more : take (n + 1) (drop start bytes) ≡ take n (drop start bytes) ++ (x ∷ [])
-      more =
-          ap (λ (i : ℕ). take i (drop start bytes)) (add-one n)
-          ∙ take-suc (drop start bytes) n 0 (omega (arith, length-drop start bytes))
-          ∙ ap (λ (y : ℕ). take n (drop start bytes) ++ (y ∷ [])) (get_or-drop start bytes n 0 ∙ ap (λ (i : ℕ). get_or bytes i 0) (omega arith) ∙ sym e)
-
-      go :
-          (v : ℕ)
-          → v < 256
-          → Dec (v ≡ x)
-          → get_or (set after x (get_or after x 0 + 1)) v 0 ≡ byte_at before v + count v (take (n + 1) (drop start bytes))
-      go v q (yes p) =
-          ap (λ (i : ℕ). get_or (set after x (get_or after x 0 + 1)) i 0) p
-          ∙ get_or-set_same after x (get_or after x 0 + 1) 0 (omega (arith, t.long))
-          ∙ ap (λ (i : ℕ). get_or after i 0 + 1) (sym p)
-          ∙ omega (arith, t.at v q, ap (count v) more, count-last-same v (take n (drop start bytes)) x p)
-      go v q (no ne) =
-          get_or-set_other after x v (get_or after x 0 + 1) 0 ne
-          ∙ omega (arith, t.at v q, ap (count v) more, count-last-other v (take n (drop start bytes)) x ne)
-
-pub quarters-none :
-    (bytes : List ℕ) (q : ℕ) (a b c d : List ℕ)
-    → length a ≡ 256
-    → length b ≡ 256
-    → length c ≡ 256
-    → length d ≡ 256
-    → Quarters bytes q 0 a b c d a b c d
-quarters-none bytes q a b c d ha hb hc hd =
-    record {
-      first = added_none bytes 0 a ha;
-      second = added_none bytes q b hb;
-      third = added_none bytes (q + q) c hc;
-      fourth = added_none bytes (q + q + q) d hd;
-    }
+    go :
+        (v : ℕ)
+        → v < 256
+        → Dec (v ≡ x)
+        → get_or table v 0 % 65536 ≡ (byte_at before v + count v (take (n + 1) (drop start bytes))) % 65536
+    go v q (yes p) =
+        let here : get_or table v 0 ≡ (get_or after v 0 + 1) % 65536 =
+        ap (λ (l : List ℕ). get_or l v 0) one
+        ∙ ap (λ (i : ℕ). get_or (with_one after x) i 0) p
+        ∙ get_or-set_same after x ((get_or after x 0 + 1) % 65536) 0 (omega (arith, t.long))
+        ∙ ap (λ (i : ℕ). (get_or after i 0 + 1) % 65536) (sym p) in
+        omega (arith, here, t.at v q, ap (count v) more, count-last-same v (take n (drop start bytes)) x p)
+    go v q (no ne) =
+        let there : get_or table v 0 ≡ get_or after v 0 =
+        ap (λ (l : List ℕ). get_or l v 0) one ∙ get_or-set_other after x v ((get_or after x 0 + 1) % 65536) 0 ne in
+        omega (arith, there, t.at v q, ap (count v) more, count-last-other v (take n (drop start bytes)) x ne)
 
 -- ---- a value's count is the sum of its counts in the quarters
 
@@ -73,36 +64,41 @@ module _ (v : ℕ) where
   rest : (l : List ℕ) (a b : ℕ) → count v (drop a l) ≡ count v (take b (drop a l)) + count v (drop (a + b) l)
   rest l a b = count-halves v b (drop a l) ∙ ap (λ (x : List ℕ). count v (take b (drop a l)) + count v x) (drop-drop b a l)
 
-  pub count-quarters :
+  count-quarters :
       (q : ℕ) (l : List ℕ)
-      → q + q + (q + q) ≡ length l
-      → count v l ≡ count v (take q l) + count v (take q (drop q l)) + (count v (take q (drop (q + q) l)) + count v (take q (drop (q + q + q) l)))
+      → 4 * q ≡ length l
+      → count v l ≡ count v (take q l) + count v (take q (drop q l)) + (count v (take q (drop (2 * q) l)) + count v (take q (drop (3 * q) l)))
   count-quarters q l e =
-      let last : take q (drop (q + q + q) l) ≡ drop (q + q + q) l = take_all q (drop (q + q + q) l) (omega (arith, length-drop (q + q + q) l)) in
-      omega (arith, count-halves v q l, rest l q q, rest l (q + q) q, ap (count v) last)
+      let last : take q (drop (3 * q) l) ≡ drop (3 * q) l = take_all q (drop (3 * q) l) (omega (arith, length-drop (3 * q) l)) in
+      let two : q + q ≡ 2 * q = omega arith in
+      let three : 2 * q + q ≡ 3 * q = omega arith in
+      omega (
+        arith,
+        count-halves v q l,
+        rest l q q,
+        ap (λ (n : ℕ). count v (drop n l)) two,
+        rest l (2 * q) q,
+        ap (λ (n : ℕ). count v (drop n l)) three,
+        ap (count v) last,
+      )
 
 pub quarters-count :
-    (bytes : List ℕ) (q : ℕ) (a b c d a' b' c' d' : List ℕ)
-    → q + q + (q + q) ≡ length bytes
-    → Quarters bytes q q a b c d a' b' c' d'
+    (bytes : List ℕ) (q : ℕ) {n : ℕ} {t u : Quarters}
+    → 4 * q ≡ length bytes
+    → n ≡ q
+    → Added bytes 0 n t.a u.a × Added bytes q n t.b u.b × Added bytes (2 * q) n t.c u.c × Added bytes (3 * q) n t.d u.d
     → (v : ℕ)
     → v < 256
-    → byte_at a' v + byte_at b' v + (byte_at c' v + byte_at d' v) ≡ byte_at a v + byte_at b v + (byte_at c v + byte_at d v) + count v bytes
-quarters-count bytes q a b c d a' b' c' d' e t v h =
-    omega (arith, count-quarters v q bytes e, t.first.at v h, t.second.at v h, t.third.at v h, t.fourth.at v h)
+    → held u v % 65536 ≡ (held t v + count v bytes) % 65536
+quarters-count bytes q {n} {t} {u} e whole added v h =
+    let at : (start : ℕ) → count v (take n (drop start bytes)) ≡ count v (take q (drop start bytes)) =
+    λ start. ap (λ (n : ℕ). count v (take n (drop start bytes))) whole in
+    omega (arith, count-quarters v q bytes e, added.0.at v h, added.1.at v h, added.2.at v h, added.3.at v h, at 0, at q, at (2 * q), at (3 * q))
 
 -- ---- the bytes of a sector as the code takes them
 
-pub quarter-of :
-    (l : List ℕ) (s e : ℕ)
-    → length l ≡ 4080
-    → s < 8
-    → e ≡ sector_end s
-    → ((e - s * 512) / 4 ≤ 128)
-    × ((e - s * 512) / 4 + (e - s * 512) / 4 + ((e - s * 512) / 4 + (e - s * 512) / 4) ≡ length (take (e - s * 512) (drop (s * 512) l)))
-quarter-of l s e h k q =
-    let n : length (take (e - s * 512) (drop (s * 512) l)) ≡ e - s * 512 = simp (length-take, length-drop) (omega arith) in
-    (omega arith, omega (arith, n))
+pub sector-long : (l : List ℕ) (s e : ℕ) → length l ≡ 4080 → s < 8 → e ≡ sector_end s → length (take (e - s * 512) (drop (s * 512) l)) ≡ e - s * 512
+sector-long l s e h k q = simp (length-take, length-drop) (omega arith)
 
 pub part_of : (l : List ℕ) (s e : ℕ) → e ≡ sector_end s → take (e - s * 512) (drop (s * 512) l) ≡ part s l
 unfolding part
@@ -128,67 +124,16 @@ module _ (fits : List Fit) (shifted : List ℕ) where
   unfolding other_count
   other-here v s t = rw t
 
-  pub four-none : Four fits shifted 0 (replicate 256 0) (replicate 256 0) (replicate 256 0) (replicate 256 0)
+  -- those of no sector, and of one more
+  pub others-none : (v : ℕ) → sum (other_count fits shifted v) 0 ≡ 0
   unfolding sum
-  four-none =
-      record { first = refl; second = refl; third = refl; fourth = refl; sums = λ v h. omega (arith, get_or-replicate {A = ℕ} 256 v 0 0 h) }
+  others-none v = refl
 
-  module _ (s : ℕ) (a b c d : List ℕ) (t : Four fits shifted s a b c d) where
-    sums-le : (v : ℕ) → v < 256 → byte_at a v + byte_at b v + (byte_at c v + byte_at d v) ≤ s * 512
-    sums-le v h = omega (arith, t.sums v h, sum-few (other_count fits shifted v) s (other-le v))
+  pub others_no : (v s : ℕ) → told_exact fits s ≡ true → sum (other_count fits shifted v) (s + 1) ≡ sum (other_count fits shifted v) s
+  others_no v s e = omega (arith, sum_more (other_count fits shifted v) s, other_none v s e)
 
-    pub four-most : s ≤ 8 → AtMost 4096 a × AtMost 4096 b × AtMost 4096 c × AtMost 4096 d
-    four-most h = (
-      record { long = t.first; small = λ v k. omega (arith, sums-le v k) },
-      record { long = t.second; small = λ v k. omega (arith, sums-le v k) },
-      record { long = t.third; small = λ v k. omega (arith, sums-le v k) },
-      record { long = t.fourth; small = λ v k. omega (arith, sums-le v k) },
-    )
+  pub others-yes : (v s : ℕ) → told_exact fits s ≡ false → sum (other_count fits shifted v) (s + 1) ≡ sum (other_count fits shifted v) s + count v (part s shifted)
+  others-yes v s e = omega (arith, sum_more (other_count fits shifted v) s, other-here v s e)
 
-    pub four-no : told_exact fits s ≡ true → Four fits shifted (s + 1) a b c d
-    four-no e =
-        record {
-          first = t.first;
-          second = t.second;
-          third = t.third;
-          fourth = t.fourth;
-          sums = λ v h. omega (arith, t.sums v h, sum_more (other_count fits shifted v) s, other_none v s e);
-        }
-
-    pub four-yes :
-        (q : ℕ) (bytes a' b' c' d' : List ℕ)
-        → told_exact fits s ≡ false
-        → bytes ≡ part s shifted
-        → q + q + (q + q) ≡ length bytes
-        → Quarters bytes q q a b c d a' b' c' d'
-        → Four fits shifted (s + 1) a' b' c' d'
-    four-yes q bytes a' b' c' d' e same long k =
-        record {
-          first = k.first.long;
-          second = k.second.long;
-          third = k.third.long;
-          fourth = k.fourth.long;
-          sums =
-              λ v h.
-              omega (
-                arith,
-                t.sums v h,
-                quarters-count bytes q a b c d a' b' c' d' long k v h,
-                ap (count v) same,
-                sum_more (other_count fits shifted v) s,
-                other-here v s e,
-              );
-        }
-
-  -- the same at equal tables
-  pub four-as :
-      (s : ℕ) {a a' b b' c c' d d' : List ℕ} → a' ≡ a → b' ≡ b → c' ≡ c → d' ≡ d → Four fits shifted s a b c d → Four fits shifted s a' b' c' d'
-  four-as s p q r u t = rw (p, q, r, u) t
-
-  pub four-all : (table a b c d : List ℕ) → Four fits shifted 8 a b c d → sums_of table a b c d ≡ with_others fits shifted table
-  unfolding sums_of with_others
-  four-all table a b c d t =
-      each-ext (λ v. byte_at table v + (byte_at a v + byte_at b v + (byte_at c v + byte_at d v)))
-      (λ v. byte_at table v + sum (other_count fits shifted v) 8)
-      256
-      (λ v h. ap (λ (n : ℕ). byte_at table v + n) (t.sums v h))
+  pub others-le : (v s : ℕ) → sum (other_count fits shifted v) s ≤ s * 512
+  others-le v s = sum-few (other_count fits shifted v) s (other-le v)

@@ -7,3 +7,4 @@ mod pages;
 mod quarters;
 
 pub use pages::{Tally, count_page};
+pub use quarters::Quarters;

@@ -4,7 +4,6 @@ ghost use Rattle.census.specs.Told.{tallied};
 ghost use Rattle.census.specs.Tables.{Noted};
 
 use crate::quarters::with_others;
-use numbers::wide;
 use sector::Fit;
 
 // How often each value occurs, how many exact sectors vote for it, and how many vote in all.
@@ -36,7 +35,7 @@ pub fn count_page(shifted: &[u8], fits: [Fit; 8]) -> Tally
             total,
         };
     }
-    let counts = with_others(shifted, fits, &exact);
+    let counts = with_others(shifted, fits, exact);
     Tally {
         counts,
         votes,
@@ -51,18 +50,15 @@ fn note_exact(shifted: &[u8], fits: [Fit; 8], counts: &mut [u16], votes: &mut [u
     ensures { Noted fits shifted.now 8 counts.new votes.new result }
 {
     let mut total: u16 = 0;
-    let mut s: usize = 0;
-    while s < 8 {
-        let fit = fits[s];
+    for (s, fit) in fits.iter().enumerate() {
         if fit.exact {
             let start = s * 512;
             let n = summary::sector_end(s) - start;
-            let v = wide(shifted[start]);
-            counts[v] = counts[v] + n as u16;
-            votes[v] = votes[v] + 1;
+            let v = usize::from(shifted[start]);
+            counts[v] += n as u16;
+            votes[v] += 1;
             total += 1;
         }
-        s += 1;
     }
     total
 }

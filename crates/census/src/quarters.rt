@@ -1,70 +1,81 @@
-// The sectors that are not exact, each counted by quarters.
-ghost use Rattle.std.specs.Prelude.{◌≡◌, ◌+◌, ◌≤◌, length};
-ghost use Rattle.census.specs.Tables.{AtMost, Quarters, sums_of, with_others};
+// Counts by quarters, and those of the sectors that are not exact.
+ghost use Rattle.std.specs.Prelude.{◌≡◌, ℕ, ◌+◌, ◌%◌, ◌<◌, length, slice_index};
+ghost use Rattle.lists.specs.Counts.{count};
+ghost use Rattle.lists.specs.Pieces.{each};
+ghost use Rattle.census.specs.Tables.{AtMost, held, with_one, with_others};
 
-use numbers::wide;
 use sector::Fit;
 
-// A table with the counts of those sectors.
-pub(crate) fn with_others(shifted: &[u8], fits: [Fit; 8], table: &[u16]) -> [u16; 256]
-    requires shifted_len { length shifted.now ≡ 4080 }
-    requires at_most { AtMost 4096 table.now }
-    ensures { result ≡ with_others fits shifted.now table.now }
-{
-    let mut a = [0u16; 256];
-    let mut b = [0u16; 256];
-    let mut c = [0u16; 256];
-    let mut d = [0u16; 256];
-    let mut s: usize = 0;
-    while s < 8 {
-        let fit = fits[s];
-        if !fit.exact {
-            let start = s * 512;
-            let end = summary::sector_end(s);
-            let q = (end - start) / 4;
-            tally_quarters(&shifted[start..end], q, &mut a, &mut b, &mut c, &mut d);
+// How often each value occurs, by a table for each quarter of the bytes. Counts go round at 65,536.
+#[derive(Drop)]
+pub struct Quarters {
+    a: [u16; 256],
+    b: [u16; 256],
+    c: [u16; 256],
+    d: [u16; 256],
+}
+
+impl Quarters {
+    // Counts that go on from others.
+    pub fn after(counts: [u16; 256]) -> Self
+        ensures { (v : ℕ) → v < 256 → held result v ≡ slice_index counts v }
+    {
+        Quarters {
+            a: counts,
+            b: [0; 256],
+            c: [0; 256],
+            d: [0; 256],
         }
-        s += 1;
     }
-    sums(table, &a, &b, &c, &d)
+
+    // One more byte of each quarter at a time, where there are four quarters of one length.
+    pub fn add(&mut self, bytes: &[u8])
+        ensures { length bytes.now % 4 ≡ 0 → (v : ℕ) → v < 256 → held self.new v % 65536 ≡ (held self.old v + count v bytes.now) % 65536 }
+    {
+        let q = bytes.len() / 4;
+        for i in 0..q {
+            note(&mut self.a, bytes[i]);
+            note(&mut self.b, bytes[i + q]);
+            note(&mut self.c, bytes[i + 2 * q]);
+            note(&mut self.d, bytes[i + 3 * q]);
+        }
+    }
+
+    // The counts over all quarters.
+    pub fn sums(&self) -> [u16; 256]
+        ensures { result ≡ each (λ v. held self.now v % 65536) 256 }
+    {
+        let mut out = [0u16; 256];
+        for v in 0..256 {
+            let (first, last) = (
+                self.a[v].wrapping_add(self.b[v]),
+                self.c[v].wrapping_add(self.d[v]),
+            );
+            out[v] = first.wrapping_add(last);
+        }
+        out
+    }
 }
 
-// One more byte of each quarter at a time.
-fn tally_quarters(
-    bytes: &[u8],
-    q: usize,
-    a: &mut [u16],
-    b: &mut [u16],
-    c: &mut [u16],
-    d: &mut [u16],
-)
-    requires q_bound { (q ≤ 128) × (q + q + (q + q) ≡ length bytes.now) }
-    requires at_most { AtMost 4096 a.old × AtMost 4096 b.old × AtMost 4096 c.old × AtMost 4096 d.old }
-    ensures { Quarters bytes.now q q a.old b.old c.old d.old a.new b.new c.new d.new }
+// One more of a value.
+fn note(table: &mut [u16; 256], value: u8)
+    ensures { table.new ≡ with_one table.old value }
 {
-    let mut i: usize = 0;
-    while i < q {
-        let v = wide(bytes[i]);
-        a[v] = a[v] + 1;
-        let w = wide(bytes[i + q]);
-        b[w] = b[w] + 1;
-        let x = wide(bytes[i + (q + q)]);
-        c[x] = c[x] + 1;
-        let y = wide(bytes[i + (q + q + q)]);
-        d[y] = d[y] + 1;
-        i += 1;
-    }
+    let v = usize::from(value);
+    table[v] = table[v].wrapping_add(1);
 }
 
-fn sums(e: &[u16], a: &[u16], b: &[u16], c: &[u16], d: &[u16]) -> [u16; 256]
-    requires { AtMost 4096 e.now × AtMost 4096 a.now × AtMost 4096 b.now × AtMost 4096 c.now × AtMost 4096 d.now }
-    ensures { result ≡ sums_of e.now a.now b.now c.now d.now }
+// A table with the counts of those sectors.
+pub(crate) fn with_others(shifted: &[u8], fits: [Fit; 8], table: [u16; 256]) -> [u16; 256]
+    requires shifted_len { length shifted.now ≡ 4080 }
+    requires at_most { AtMost 4096 table }
+    ensures { result ≡ with_others fits shifted.now table }
 {
-    let mut out = [0u16; 256];
-    let mut v: usize = 0;
-    while v < 256 {
-        out[v] = e[v] + (a[v] + b[v] + (c[v] + d[v]));
-        v += 1;
+    let mut counts = Quarters::after(table);
+    for (s, fit) in fits.iter().enumerate() {
+        if !fit.exact {
+            counts.add(&shifted[s * 512..summary::sector_end(s)]);
+        }
     }
-    out
+    counts.sums()
 }

@@ -6,53 +6,78 @@ mod rules;
 mod supplied;
 
 ghost use Rattle.std.specs.Prelude.{◌≡◌};
-ghost use Rattle.choice.specs.Rules.{refused_of, choice_of};
+ghost use Rattle.answers.specs.Answers.{answer_in};
+ghost use Rattle.choice.specs.Rules.{refusal, asked_answer, choice_of};
 
-use answers::{Answer, Bvs, Confidence, Grounds, Options, Source, WarningKind};
+use answers::{Bvs, Confidence, Grounds, Options, Refusal, Source, WarningKind};
+use rules::Case;
 pub use supplied::supplied_bv;
 
-// The choice. `group`: of answer 5 the candidates; of an ambiguous choice that was let through, those it was preferred to.
+// The choice. `others`: of an ambiguous choice that was let through, those it was preferred to.
 #[derive(Clone, Copy)]
 pub struct Choice {
-    pub answer: Answer,
     pub bv: u8,
     pub source: Source,
     pub confidence: Confidence,
     pub grounds: Grounds,
-    pub group: Bvs,
-    pub warned: WarningKind,
+    pub others: Bvs,
+    pub warned: Option<WarningKind>,
+}
+
+// Why nothing is taken, with the candidates of answer 5.
+#[derive(Clone, Copy)]
+pub struct Refused {
+    pub refusal: Refusal,
+    pub candidates: Bvs,
+}
+
+impl From<Refusal> for Refused {
+    ghost from_gives = { λ x r. r ≡ refusal x };
+
+    fn from(refusal: Refusal) -> Refused {
+        Refused {
+            refusal,
+            candidates: Bvs::none(),
+        }
+    }
 }
 
 // The choice for a page's 4,080 shifted bytes, with the stored row count n. A search limit out of range refuses it before a byte is read.
-pub fn choose_bv(number: u64, shifted: &[u8], anchors: &[u8], n: u8, options: Options) -> Choice
+#[tactic(auto, using(crate::proofs::ChoiceCases::choosing))]
+pub fn choose_bv(
+    number: u64,
+    shifted: &[u8],
+    anchors: &[u8],
+    n: u8,
+    options: Options,
+) -> Result<Choice, Refused>
     ensures { result ≡ choice_of number shifted.now anchors.now n options }
 {
-    let none = Bvs::none();
-    let length = shifted.len();
-    if length != 4080 {
-        return refused(Answer::WrongBufferLength(length), none);
-    }
-    let limit = options.search_limit;
-    if !Options::limit_fits(limit) {
-        return refused(Answer::LimitOutOfRange(limit), none);
-    }
-    let a = votes::assess(shifted, anchors, limit, n, options.min_trailer_count);
-    let leniency = options.leniency;
-    rules::rule_one(number, leniency.keystream(), a)
+    check_asked(shifted.len(), options.search_limit)?;
+    let case = Case {
+        number,
+        lenient: options.keystream(),
+        assessment: votes::assess(
+            shifted,
+            anchors,
+            options.search_limit,
+            n,
+            options.min_trailer_count,
+        ),
+    };
+    case.rule_one()
 }
 
-// Nothing is taken.
-pub fn refused(answer: Answer, group: Bvs) -> Choice
-    ensures { result ≡ refused_of answer group }
+// How many shifted bytes there are, then the search limit: the first that is wrong refuses.
+#[tactic(auto, using(crate::proofs::ChoiceCases::asking))]
+pub(crate) fn check_asked(shifted: usize, limit: usize) -> Result<(), Refusal>
+    ensures { answer_in result ≡ asked_answer shifted limit }
 {
-    let grounds = Grounds::none();
-    Choice {
-        answer,
-        bv: 0,
-        source: Source::Refused,
-        confidence: Confidence::Refused,
-        grounds,
-        group,
-        warned: WarningKind::Nothing,
+    if shifted != 4080 {
+        return Err(Refusal::WrongBufferLength(shifted));
     }
+    if !Options::limit_fits(limit) {
+        return Err(Refusal::LimitOutOfRange(limit));
+    }
+    Ok(())
 }

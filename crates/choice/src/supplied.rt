@@ -2,37 +2,33 @@
 ghost use Rattle.std.specs.Prelude.{◌≡◌, ◌&&◌, leb, eqb};
 ghost use Rattle.choice.specs.Supplied.{supplied_with, supplied_by, supplied_of};
 
-use crate::rules::saturating_sub;
-use crate::{Choice, refused};
-use answers::{Answer, Bvs, Confidence, Evidence, Grounds, Options, Source, WarningKind};
+use crate::{Choice, Refused, check_asked};
+use answers::{Bvs, Confidence, Evidence, Grounds, Options, Refusal, Source, WarningKind};
 
 // For a page's 4,080 shifted bytes, with the stored row count n. A search limit out of range refuses it, as it refuses a choice.
-pub fn supplied_bv(number: u64, bv: u8, shifted: &[u8], n: u8, options: Options) -> Choice
+#[tactic(auto, using(crate::proofs::ChoiceCases::supplying))]
+pub fn supplied_bv(
+    number: u64,
+    bv: u8,
+    shifted: &[u8],
+    n: u8,
+    options: Options,
+) -> Result<Choice, Refused>
     ensures { result ≡ supplied_of number bv shifted.now n options }
 {
-    let length = shifted.len();
-    if length != 4080 {
-        let none = Bvs::none();
-        return refused(Answer::WrongBufferLength(length), none);
-    }
-    let limit = options.search_limit;
-    if !Options::limit_fits(limit) {
-        let none = Bvs::none();
-        return refused(Answer::LimitOutOfRange(limit), none);
-    }
+    check_asked(shifted.len(), options.search_limit)?;
     let poll = votes::votes_for(shifted, bv);
-    let dissent = saturating_sub(poll.total, poll.votes);
+    let dissent = poll.total.saturating_sub(poll.votes);
     let matches = slots::trailer_row_count_matches(
         shifted,
         bv,
-        limit,
+        options.search_limit,
         n,
         options.min_trailer_count,
     );
-    let leniency = options.leniency;
     supplied_by(
         number,
-        leniency.keystream(),
+        options.keystream(),
         bv,
         poll.votes,
         dissent,
@@ -41,6 +37,7 @@ pub fn supplied_bv(number: u64, bv: u8, shifted: &[u8], n: u8, options: Options)
 }
 
 // By the votes for it, the dissent, and the row-count test.
+#[tactic(auto, using(crate::proofs::ChoiceCases::supporting))]
 fn supplied_by(
     number: u64,
     lenient: bool,
@@ -48,33 +45,29 @@ fn supplied_by(
     votes: u16,
     dissent: u16,
     matches: bool,
-) -> Choice
+) -> Result<Choice, Refused>
     ensures { result ≡ supplied_by number lenient bv votes dissent matches }
 {
-    let rows = Grounds::none().with_if(matches, Evidence::TrailerRowCount);
-    let grounds = rows.with_if(
-        2 <= votes,
-        Evidence::ExactSectors {
-            count: votes,
-            dissent,
-        },
-    );
+    let grounds = Grounds::none()
+        .with_if(matches, Evidence::TrailerRowCount)
+        .with_if(
+            2 <= votes,
+            Evidence::ExactSectors {
+                count: votes,
+                dissent,
+            },
+        );
     if matches {
-        return supplied_with(bv, Confidence::Verified, grounds, WarningKind::Nothing);
+        return Ok(supplied_with(bv, Confidence::Verified, grounds, None));
     }
     if is_agreed(votes, dissent) {
-        return supplied_with(bv, Confidence::Calibrated, grounds, WarningKind::Nothing);
+        return Ok(supplied_with(bv, Confidence::Calibrated, grounds, None));
     }
     if lenient {
-        return supplied_with(
-            bv,
-            Confidence::Unverified,
-            grounds,
-            WarningKind::UnverifiedKeystream { bv },
-        );
+        let warned = WarningKind::UnverifiedKeystream { bv };
+        return Ok(supplied_with(bv, Confidence::Unverified, grounds, Some(warned)));
     }
-    let none = Bvs::none();
-    refused(Answer::KeystreamUnverified { page: number, bv }, none)
+    Err(Refusal::KeystreamUnverified { page: number, bv }.into())
 }
 
 // Two votes or more, and no dissent.
@@ -84,17 +77,20 @@ fn is_agreed(votes: u16, dissent: u16) -> bool
     2 <= votes && dissent == 0
 }
 
-fn supplied_with(bv: u8, confidence: Confidence, grounds: Grounds, warned: WarningKind) -> Choice
+fn supplied_with(
+    bv: u8,
+    confidence: Confidence,
+    grounds: Grounds,
+    warned: Option<WarningKind>,
+) -> Choice
     ensures { result ≡ supplied_with bv confidence grounds warned }
 {
-    let group = Bvs::none();
     Choice {
-        answer: Answer::Accepted,
         bv,
         source: Source::Supplied,
         confidence,
         grounds,
-        group,
+        others: Bvs::none(),
         warned,
     }
 }

@@ -13,10 +13,8 @@ pub(crate) fn modal_counts(stored: &[u8], offset: u8, room: &mut [u8]) -> [u16; 
 {
     let capped = capped_counts(stored, offset);
     let mut counts = [0u16; 256];
-    let mut step: usize = 0;
-    while step < 256 {
+    for step in 0..256 {
         counts[step] = recount(capped[step], stored, offset, step as u8, room);
-        step += 1;
     }
     counts
 }
@@ -27,7 +25,7 @@ fn recount(capped: u8, stored: &[u8], offset: u8, step: u8, room: &mut [u8]) -> 
     ensures { result ≡ modal_at offset stored.now step }
 {
     if capped < 255 {
-        return capped as u16;
+        return u16::from(capped);
     }
     sector::modal_count(stored, offset, step, room)
 }
@@ -40,13 +38,11 @@ fn capped_counts(stored: &[u8], offset: u8) -> [u8; 256]
     let mut twice = table();
     let mut eight = table();
     let mut counts = [0u8; 256];
-    let mut m: usize = 0;
-    while m < 16 {
+    for m in 0..16 {
         rings::tally(stored, offset, (m * 16) as u8, &mut sixteen);
         rings::double(&sixteen, &mut twice);
         count_eight(&sixteen, &twice, m, &mut eight, &mut counts);
         count_eight(&sixteen, &twice, m + 16, &mut eight, &mut counts);
-        m += 1;
     }
     counts
 }

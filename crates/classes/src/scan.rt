@@ -16,7 +16,6 @@ pub fn scan_sector(stored: &[u8], offset: u8, out: &mut [u8]) -> Fit
     }
     let counts = modal_counts(stored, offset, out);
     let fit = sector::table_fit(counts, n);
-    let step = fit.step;
-    sector::write_shifted(stored, offset, step, out);
+    sector::write_shifted(stored, offset, fit.step, out);
     fit
 }

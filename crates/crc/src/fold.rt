@@ -28,11 +28,8 @@ fn fold_up_to(sums: &mut [u8; 4396], octets: &[u8], cut: usize, start: u32)
     requires { (300 ≤ cut) × (cut + 4 ≤ length octets.now) × (length octets.now ≤ 4096) × Folding start octets.now sums.old 0 }
     ensures { Folding start octets.now sums.new (cut - 300) }
 {
-    let e = cut - 300;
-    let mut j = 0;
-    while j < e {
+    for j in 0..cut - 300 {
         sums[j + 300] = octets[j] ^ sums[j + 155] ^ sums[j + 117] ^ sums[j + 89] ^ sums[j];
-        j += 1;
     }
 }
 
@@ -41,14 +38,12 @@ fn left_over(left: &mut [u8; 304], sums: &[u8; 4396], octets: &[u8], j: usize)
     requires { (j + 304 ≤ length octets.now) × (length octets.now ≤ 4096) × (length left.old ≡ 304) }
     ensures { LeftOver octets.now sums.now left.new j 304 }
 {
-    let mut k = 0;
-    while k < 304 {
+    for k in 0..304 {
         left[k] = octets[j + k]
             ^ sums[j + k + 155]
             ^ sums[j + k + 117]
             ^ sums[j + k + 89]
             ^ sums[j + k];
-        k += 1;
     }
 }
 

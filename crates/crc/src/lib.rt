@@ -27,6 +27,7 @@ fn after_all(octets: &[u8]) -> u32
     ensures { result ≡ register_after (2 ^ 32 - 1) octets.now }
 {
     let mut r: u32 = 0xffff_ffff;
+    // By index: what no chunk takes up goes on as one slice.
     let mut i = 0;
     while 4096 <= octets.len() - i {
         let e = i + 4096;

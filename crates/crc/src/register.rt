@@ -8,6 +8,7 @@ pub(crate) fn after_short(start: u32, octets: &[u8]) -> u32
     ensures { result ≡ register_after start octets.now }
 {
     let mut r = start;
+    // By index: the octets behind the last whole word go on by their place.
     let mut i = 0;
     while 8 <= octets.len() - i {
         r = after_word(octets, i, 0, r);
@@ -22,10 +23,8 @@ pub(crate) fn after_octets(start: u32, octets: &[u8], i: usize) -> u32
     ensures { result ≡ register_after start (drop i octets.now) }
 {
     let mut r = start;
-    let mut k = i;
-    while k < octets.len() {
+    for k in i..octets.len() {
         r = after_octet(r, octets[k]);
-        k += 1;
     }
     r
 }
@@ -35,10 +34,10 @@ pub(crate) fn after_word(octets: &[u8], i: usize, word: u64, left: u32) -> u32
     requires { i + 8 ≤ length octets.now }
     ensures { result ≡ steps 64 (bit_xor (value_of (take 8 (drop i octets.now))) (bit_xor word left)) }
 {
-    sixty_four_steps(word_at(octets, i) ^ (word ^ (left as u64)))
+    sixty_four_steps(word_at(octets, i) ^ (word ^ u64::from(left)))
 }
 
-// Eight octets as a number, the first the lowest: one load.
+// Eight octets as a number, the first the lowest: one load. By shifts: what the register is proved of is bits, and not the bytes of `from_le_bytes`.
 pub(crate) fn word_at(octets: &[u8], i: usize) -> u64
     requires { i + 8 ≤ length octets.now }
     ensures { result ≡ value_of (take 8 (drop i octets.now)) }
@@ -57,13 +56,13 @@ fn octet_at(octets: &[u8], i: usize) -> u64
     requires { i < length octets.now }
     ensures { (result ≡ get_or octets.now i 0) × (result < 256) }
 {
-    octets[i] as u64
+    u64::from(octets[i])
 }
 
 fn after_octet(start: u32, octet: u8) -> u32
     ensures { result ≡ steps 8 (bit_xor start octet) }
 {
-    let x = start ^ (octet as u32);
+    let x = start ^ u32::from(octet);
     one_step(one_step(one_step(one_step(one_step(one_step(one_step(one_step(x))))))))
 }
 

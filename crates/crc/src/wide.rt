@@ -12,11 +12,12 @@ pub(crate) fn after_medium(start: u32, octets: &[u8]) -> u32
     if n < 40 {
         return register::after_short(start, octets);
     }
-    let mut n1 = start as u64;
-    let mut n2: u64 = 0;
-    let mut n3: u64 = 0;
-    let mut n4: u64 = 0;
-    let mut n5: u64 = 0;
+    let mut n1 = u64::from(start);
+    let mut n2 = 0u64;
+    let mut n3 = 0u64;
+    let mut n4 = 0u64;
+    let mut n5 = 0u64;
+    // By index: the words stop 40 octets or more before the end, and those are read by their place.
     let mut i = 0;
     let last = n - 40;
     while 8 <= last - i {

@@ -1,28 +1,29 @@
 -- The cases of a decoding, one law to a case: what it is, and what it leaves in out. Assumes nothing.
-use Rattle.std.proofs.Common.{◌≡◌, ℕ, Bool, true, false, eqb, List, length, sym, refl, ap, ◌∙◌, ne_eqb, eqb-true}
+use Rattle.std.proofs.Common.{Option, Some, None, Result, Ok, Err, ◌≡◌, ℕ, Bool, true, false, eqb, List, length, sym, refl, ap, ◌∙◌, eq-eqb, ne_eqb, eqb-true}
 use native.Mathlib.Decide.{ℕ_discrete}
 use Rattle.lists.specs.Cases.{pick}
-use Rattle.lists.proofs.Picks.{never_both}
-use Rattle.answers.specs.Answers.{is_accepted}
+use Rattle.answers.specs.Answers.{Answer}
 use Rattle.answers.specs.Settings.{limit_fits}
-use Rattle.answers.specs.declared.kinds.Answer.{Answer}
-use Rattle.answers.specs.declared.kinds.Answer.TheVariants as answer
+use Rattle.answers.specs.declared.kinds.Refusal.{Refusal}
+use Rattle.answers.specs.declared.kinds.Refusal.TheVariants.{WrongPageLength, WrongBufferLength, LimitOutOfRange}
 use Rattle.answers.specs.declared.settings.Options.{Options}
 use Rattle.sector.specs.declared.fits.Fit.{Fit}
 use Rattle.page.specs.Trailer.{row_count_of}
 use Rattle.page.specs.Integrity.{is_unallocated, written_integrity}
 use Rattle.page.proofs.Verdicts.{on-written}
-use Rattle.summary.specs.Page.{bytes_of}
+use Rattle.summary.specs.Page.{fits_of, bytes_of, page_scan_of, scanned}
 use Rattle.summary.proofs.Sectors.{summary-length}
-use Rattle.choice.specs.Rules.{refused_of}
+use Rattle.choice.specs.declared.Refused.{Refused}
+use Rattle.choice.specs.Rules.{refusal, unless_refused}
 use Rattle.verdict.specs.declared.Decoding.{Decoding}
-use Rattle.verdict.specs.Verdict.{refusal, unallocated_of, verdict_by, verdict_of}
-use Rattle.decode.specs.Decode.{entry_answer, entry_checked, delivered_of, written_of}
+use Rattle.verdict.specs.Verdict.{unallocated_of, verdict_by, verdict_of}
+use Rattle.verdict.proofs.DecisionCases.{verdict-refused}
+use Rattle.decode.specs.Decode.{entry_answer, entry_checked, early_of, early_by}
 
 -- ---- lengths and limit
 
 pub entry-right :
-    (n m k lim : ℕ) → is_accepted (entry_answer n m k lim) ≡ true → (n ≡ 4096) × (m ≡ 4096) × (k ≡ 4080) × (limit_fits lim ≡ true)
+    (n m k lim : ℕ) → None ≡ entry_answer n m k lim → (n ≡ 4096) × (m ≡ 4096) × (k ≡ 4080) × (limit_fits lim ≡ true)
 unfolding entry_answer
 entry-right n m k lim = go (eqb n 4096) refl (eqb m 4096) refl (eqb k 4080) refl (limit_fits lim) refl
   where
@@ -35,25 +36,18 @@ entry-right n m k lim = go (eqb n 4096) refl (eqb m 4096) refl (eqb k 4080) refl
         → eqb k 4080 ≡ c
         → (d : Bool)
         → limit_fits lim ≡ d
-        → is_accepted
-        (pick a
-        (pick b (pick c (pick d answer.Accepted (answer.LimitOutOfRange lim)) (answer.WrongBufferLength k)) (answer.WrongBufferLength m))
-        (answer.WrongPageLength n))
-        ≡ true
+        → None
+        ≡ pick a
+        (pick b (pick c (pick d None (Some (LimitOutOfRange lim))) (Some (WrongBufferLength k))) (Some (WrongBufferLength m)))
+        (Some (WrongPageLength n))
         → (n ≡ 4096) × (m ≡ 4096) × (k ≡ 4080) × (limit_fits lim ≡ true)
     go true p true q true r true f h = (eqb-true n 4096 p, eqb-true m 4096 q, eqb-true k 4080 r, f)
-    go true p true q true r false f h = absurd (never_both refl h)
-    go true p true q false r d f h = absurd (never_both refl h)
-    go true p false q c r d f h = absurd (never_both refl h)
-    go false p b q c r d f h = absurd (never_both refl h)
+    go true p true q true r false f h = absurd cc
+    go true p true q false r d f h = absurd cc
+    go true p false q c r d f h = absurd cc
+    go false p b q c r d f h = absurd cc
 
--- from what the code tested
-pub entry-ok :
-    (x : Answer) (t : Bool) (n m k lim : ℕ) → x ≡ entry_answer n m k lim → t ≡ is_accepted x → t ≡ true → is_accepted (entry_answer n m k lim) ≡ true
-entry-ok x t n m k lim e a h = sym (ap (λ (y : Answer). is_accepted y) e) ∙ sym a ∙ h
-
--- a page's own summary has 4,080 bytes
-pub own-entry :
+own-entry :
     (number m lim : ℕ) (stored : List ℕ) → entry_answer (length stored) m 4080 lim ≡ entry_answer (length stored) m (length (bytes_of number stored)) lim
 unfolding entry_answer
 own-entry number m lim stored = go (ℕ_discrete (length stored) 4096)
@@ -66,53 +60,124 @@ own-entry number m lim stored = go (ℕ_discrete (length stored) 4096)
 -- ---- a page that was written
 
 pub verdict-written :
-    (number : ℕ) (stored : List ℕ) (fits : List Fit) (xs anchors : List ℕ) (o : Options) (x : Answer)
+    (number : ℕ) (stored : List ℕ) (fits : List Fit) (xs anchors : List ℕ) (o : Options)
     → is_unallocated stored ≡ false
-    → x ≡ written_integrity number stored
-    → verdict_by number x (row_count_of stored) fits xs anchors o ≡ verdict_of number stored fits xs anchors o
+    → verdict_of number stored fits xs anchors o ≡ verdict_by number (written_integrity number stored) (row_count_of stored) fits xs anchors o
 unfolding verdict_of
-verdict-written number stored fits xs anchors o x z e =
-    ap (λ (y : Answer). verdict_by number y (row_count_of stored) fits xs anchors o) (e ∙ sym (on-written number stored z))
+verdict-written number stored fits xs anchors o z =
+    ap (λ (y : Answer). verdict_by number y (row_count_of stored) fits xs anchors o) (on-written number stored z)
 
--- ---- what is decided, and what out holds; d is what is decided of a written page
+-- ---- what is answered before anything is decided
 
-module _ (d : Decoding) (stored xs out : List ℕ) (lim : ℕ) where
-  pub ends-entry :
-      (x : Answer) (r : Decoding)
-      → x ≡ entry_answer (length stored) (length out) (length xs) lim
-      → is_accepted x ≡ false
-      → r ≡ refusal x
-      → (r ≡ entry_checked stored xs (length out) lim d) × (out ≡ written_of r stored xs out)
-  unfolding entry_checked written_of refused_of
-  ends-entry x r e h q =
-      let a : is_accepted r.choice.answer ≡ false = ap (λ (v : Decoding). is_accepted v.choice.answer) q ∙ h in
-      (q ∙ rw (← e, h), rw a)
+module _ (stored : List ℕ) (m k lim : ℕ) where
+  pub early-refused : (x : Refusal) → Some x ≡ entry_answer (length stored) m k lim → Err x ≡ early_of stored m k lim
+  unfolding early_of
+  early-refused x e = rw (← e)
 
-  module _ (k : is_accepted (entry_answer (length stored) (length out) (length xs) lim) ≡ true) where
-    pub ends-zeros :
-        is_unallocated stored ≡ true
-        → (r : Decoding)
-        → r ≡ unallocated_of
-        → (r ≡ entry_checked stored xs (length out) lim d) × (stored ≡ written_of r stored xs out)
-    unfolding entry_checked written_of unallocated_of
-    ends-zeros z r q = (q ∙ rw (k, z), rw (ap (λ (v : Decoding). is_accepted v.choice.answer) q, z))
+  pub early-zeros : None ≡ entry_answer (length stored) m k lim → is_unallocated stored ≡ true → Ok (Some unallocated_of) ≡ early_of stored m k lim
+  unfolding early_of
+  early-zeros e z = rw (← e, z)
 
-    pub ends-page :
-        is_unallocated stored ≡ false
-        → (r : Decoding) (after : List ℕ)
-        → r ≡ d
-        → after ≡ delivered_of d.choice stored xs out
-        → (r ≡ entry_checked stored xs (length out) lim d) × (after ≡ written_of r stored xs out)
-    unfolding entry_checked written_of
-    ends-page z r after q w = (q ∙ rw (k, z), w ∙ rw (q, z))
+  pub early-none : None ≡ entry_answer (length stored) m k lim → is_unallocated stored ≡ false → Ok None ≡ early_of stored m k lim
+  unfolding early_of
+  early-none e z = rw (← e, z)
 
-    -- it is refused, whatever its summary
-    pub ends-refused :
-        is_unallocated stored ≡ false
-        → (x : Answer) (r : Decoding)
-        → is_accepted x ≡ false
-        → d ≡ refusal x
-        → r ≡ refusal x
-        → (r ≡ entry_checked stored xs (length out) lim d) × (out ≡ written_of r stored xs out)
-    unfolding refused_of
-    ends-refused z x r h e q = ends-page z r out (q ∙ sym e) (rw (ap (λ (v : Decoding). is_accepted v.choice.answer) e, h))
+  -- the lengths and the limit are right, and the page was written
+  pub record IsLeft : Type 0 where
+    pub accepted : None ≡ entry_answer (length stored) m k lim
+    pub written : is_unallocated stored ≡ false
+
+  pub early-left : (y : Option Decoding) → Ok y ≡ early_of stored m k lim → y ≡ None → IsLeft
+  unfolding early_of
+  early-left y h e = go (entry_answer (length stored) m k lim) refl (is_unallocated stored) refl (sym (ap (λ (z : Option Decoding). Ok z) e) ∙ h)
+    where
+      go : (x : Answer) → entry_answer (length stored) m k lim ≡ x → (b : Bool) → is_unallocated stored ≡ b → Ok None ≡ early_by x b → IsLeft
+      go None p false q f = record { accepted = sym p; written = q }
+      go None p true q f = absurd cc
+      go (Some x) p b q f = absurd cc
+
+  -- so that the lengths are right
+  module _ (y : Option Decoding) (h : Ok y ≡ early_of stored m k lim) (e : y ≡ None) where
+    pub left-stored : length stored ≡ 4096
+    left-stored = (entry-right _ _ _ _ (early-left y h e).accepted).0
+
+    pub left-out : m ≡ 4096
+    left-out = (entry-right _ _ _ _ (early-left y h e).accepted).1
+
+    pub left-shifted : k ≡ 4080
+    left-shifted = (entry-right _ _ _ _ (early-left y h e).accepted).2
+
+pub ruleset entering = (entry-right, early-refused, early-zeros, early-none)
+
+-- a page's own summary has 4,080 bytes
+pub own-early :
+    (number m lim : ℕ) (stored : List ℕ) → early_of stored m 4080 lim ≡ early_of stored m (length (bytes_of number stored)) lim
+unfolding early_of
+own-early number m lim stored = ap (λ (x : Answer). early_by x (is_unallocated stored)) (own-entry number m lim stored)
+
+-- ---- what is decided, and what out holds; w is what is decided of a written page
+
+module _ (w : Result Decoding Refused) (stored xs : List ℕ) (m lim : ℕ) where
+  pub checked-refused : (x : Refusal) → Err x ≡ early_of stored m (length xs) lim → entry_checked stored xs m lim w ≡ Err (refusal x)
+  unfolding early_of entry_checked
+  checked-refused x = go (entry_answer (length stored) m (length xs) lim) (is_unallocated stored)
+    where
+      go : (y : Answer) (b : Bool) → Err x ≡ early_by y b → unless_refused y (pick b (Ok unallocated_of) w) ≡ Err (refusal x)
+      go None true f = absurd cc
+      go None false f = absurd cc
+      go (Some y) b f = cc
+
+  pub checked-zeros : (y : Option Decoding) (d : Decoding) → Ok y ≡ early_of stored m (length xs) lim → y ≡ Some d → entry_checked stored xs m lim w ≡ Ok d
+  unfolding early_of entry_checked
+  checked-zeros y d h e = go (entry_answer (length stored) m (length xs) lim) (is_unallocated stored) (sym (ap (λ (z : Option Decoding). Ok z) e) ∙ h)
+    where
+      go : (y : Answer) (b : Bool) → Ok (Some d) ≡ early_by y b → unless_refused y (pick b (Ok unallocated_of) w) ≡ Ok d
+      go None true f = cc
+      go None false f = absurd cc
+      go (Some y) b f = absurd cc
+
+  pub checked-page : (y : Option Decoding) → Ok y ≡ early_of stored m (length xs) lim → y ≡ None → entry_checked stored xs m lim w ≡ w
+  unfolding entry_checked
+  checked-page y h e =
+      let l = early-left stored m (length xs) lim y h e in
+      rw (← l.accepted, l.written)
+
+module _ (stored : List ℕ) (m k lim : ℕ) (y : Option Decoding) (h : Ok y ≡ early_of stored m k lim) where
+  pub zeros-here : (d : Decoding) → y ≡ Some d → is_unallocated stored ≡ true
+  unfolding early_of
+  zeros-here d e = go (entry_answer (length stored) m k lim) (is_unallocated stored) (sym (ap (λ (z : Option Decoding). Ok z) e) ∙ h)
+    where
+      go : (y : Answer) (b : Bool) → Ok (Some d) ≡ early_by y b → b ≡ true
+      go None true f = refl
+      go None false f = absurd cc
+      go (Some y) b f = absurd cc
+
+  pub written-here : y ≡ None → is_unallocated stored ≡ false
+  written-here e = (early-left stored m k lim y h e).written
+
+-- by its own scan
+module _ (number : ℕ) (stored : List ℕ) (w : Result Decoding Refused) (m lim : ℕ) where
+  pub own-refused : (x : Refusal) → Err x ≡ early_of stored m 4080 lim → entry_checked stored (bytes_of number stored) m lim w ≡ Err (refusal x)
+  own-refused x h = checked-refused w stored (bytes_of number stored) m lim x (h ∙ own-early number m lim stored)
+
+  module _ (y : Option Decoding) (h : Ok y ≡ early_of stored m 4080 lim) where
+    pub own-zeros : (d : Decoding) → y ≡ Some d → entry_checked stored (bytes_of number stored) m lim w ≡ Ok d
+    own-zeros d e = checked-zeros w stored (bytes_of number stored) m lim y d (h ∙ own-early number m lim stored) e
+
+    pub own-page : y ≡ None → entry_checked stored (bytes_of number stored) m lim w ≡ w
+    own-page e = checked-page w stored (bytes_of number stored) m lim y (h ∙ own-early number m lim stored) e
+
+-- what is scanned into room of the right length is the page's own summary
+module _ (number : ℕ) (stored : List ℕ) (n : length stored ≡ 4096) where
+  pub scan-fits : (k : ℕ) → k ≡ 4080 → page_scan_of number stored k ≡ Ok (fits_of number stored)
+  unfolding page_scan_of
+  scan-fits k e = rw (eq-eqb (length stored) 4096 n, eq-eqb k 4080 e)
+
+  pub scan-bytes : (buffer : List ℕ) → length buffer ≡ 4080 → scanned number stored buffer ≡ bytes_of number stored
+  unfolding scanned
+  scan-bytes buffer e = rw (eq-eqb (length stored) 4096 n, eq-eqb (length buffer) 4080 e)
+
+-- what a decoding from a summary ends by, and one by its own scan
+pub ruleset ending = (checked-refused, checked-zeros, checked-page, zeros-here, written-here, left-stored, left-out, left-shifted, verdict-written)
+
+pub ruleset owning = (own-refused, own-zeros, own-page, zeros-here, written-here, left-stored, left-out, scan-fits, scan-bytes, verdict-written, verdict-refused)

@@ -1,24 +1,46 @@
 // What a decoding is lent and told, before a byte of it is read.
-ghost use Rattle.std.specs.Prelude.{◌≡◌};
-ghost use Rattle.decode.specs.Decode.{entry_answer};
+ghost use Rattle.std.specs.Prelude.{◌≡◌, length};
+ghost use Rattle.answers.specs.Answers.{answer_in};
+ghost use Rattle.decode.specs.Decode.{entry_answer, early_of, early_written};
 
-use answers::{Answer, Options};
+use answers::{Options, Refusal};
+use verdict::Decoding;
+
+// What is answered before anything is decided: a refusal, or a page that was never written, whose zeros are copied.
+#[tactic(auto, using(crate::proofs::EntryCases::entering))]
+pub(crate) fn early(
+    stored: &[u8],
+    shifted: usize,
+    limit: usize,
+    out: &mut [u8],
+) -> Result<Option<Decoding>, Refusal>
+    ensures answer { result ≡ early_of stored.now (length out.old) shifted limit }
+    ensures written { out.new ≡ early_written result stored.now out.old }
+{
+    check_entry(stored.len(), out.len(), shifted, limit)?;
+    if page::is_unallocated(stored) {
+        out.copy_from_slice(stored);
+        return Ok(Some(verdict::unallocated()));
+    }
+    Ok(None)
+}
 
 // The lengths of the stored page, of `out` and of the shifted bytes, then the search limit: the first that is wrong refuses.
-pub(crate) fn check_entry(stored: usize, out: usize, shifted: usize, limit: usize) -> Answer
-    ensures { result ≡ entry_answer stored out shifted limit }
+#[tactic(auto, unfolding(crate::specs::Decode::entry_answer))]
+fn check_entry(stored: usize, out: usize, shifted: usize, limit: usize) -> Result<(), Refusal>
+    ensures { answer_in result ≡ entry_answer stored out shifted limit }
 {
     if stored != 4096 {
-        return Answer::WrongPageLength(stored);
+        return Err(Refusal::WrongPageLength(stored));
     }
     if out != 4096 {
-        return Answer::WrongBufferLength(out);
+        return Err(Refusal::WrongBufferLength(out));
     }
     if shifted != 4080 {
-        return Answer::WrongBufferLength(shifted);
+        return Err(Refusal::WrongBufferLength(shifted));
     }
     if !Options::limit_fits(limit) {
-        return Answer::LimitOutOfRange(limit);
+        return Err(Refusal::LimitOutOfRange(limit));
     }
-    Answer::Accepted
+    Ok(())
 }

@@ -2,36 +2,30 @@
 ghost use Rattle.std.specs.Prelude.{◌≡◌, length};
 ghost use Rattle.decode.specs.Decode.{own_decoding, own_supplied, own_written};
 
-use crate::entries::check_entry;
+use crate::entries::early;
 use crate::plaintext::deliver;
 use answers::Options;
+use choice::Refused;
 use verdict::Decoding;
 
+#[tactic(auto, using(crate::proofs::EntryCases::owning), unfolding(crate::specs::Decode::written_of, crate::specs::Decode::decoding_of))]
 pub fn decode_page(
     number: u64,
     stored: &[u8],
     anchors: &[u8],
     options: Options,
     out: &mut [u8],
-) -> Decoding
+) -> Result<Decoding, Refused>
     ensures { (result ≡ own_decoding number stored.now anchors.now options (length out.old))
         × (out.new ≡ own_written number result stored.now out.old) }
 {
-    let entry = check_entry(stored.len(), out.len(), 4080, options.search_limit);
-    if !entry.accepted() {
-        return verdict::refused(entry);
-    }
-    if page::is_unallocated(stored) {
-        numbers::copy(stored, out);
-        return verdict::unallocated();
+    if let Some(decoding) = early(stored, 4080, options.search_limit, out)? {
+        return Ok(decoding);
     }
     let found = page::check_written(number, stored);
-    if verdict::is_refused(found, options) {
-        return verdict::refused(found);
-    }
+    verdict::let_through(found, options)?;
     let mut shifted = room();
-    let scan = summary::scan_page(number, stored, &mut shifted);
-    let fits = scan.fits;
+    let fits = summary::scan_page(number, stored, &mut shifted)?;
     let decoding = verdict::decide(
         number,
         found,
@@ -40,35 +34,30 @@ pub fn decode_page(
         &shifted,
         anchors,
         options,
-    );
-    deliver(decoding.choice, stored, &shifted, out);
-    decoding
+    )?;
+    deliver(decoding.choice.bv, stored, &shifted, out);
+    Ok(decoding)
 }
 
+#[tactic(auto, using(crate::proofs::EntryCases::owning), unfolding(crate::specs::Decode::written_of, crate::specs::Decode::supplied_decoding_of))]
 pub fn decode_with_bv(
     number: u64,
     bv: u8,
     stored: &[u8],
     options: Options,
     out: &mut [u8],
-) -> Decoding
+) -> Result<Decoding, Refused>
     ensures { (result ≡ own_supplied number bv stored.now options (length out.old))
         × (out.new ≡ own_written number result stored.now out.old) }
 {
-    let entry = check_entry(stored.len(), out.len(), 4080, options.search_limit);
-    if !entry.accepted() {
-        return verdict::refused(entry);
-    }
-    if page::is_unallocated(stored) {
-        numbers::copy(stored, out);
-        return verdict::unallocated();
+    if let Some(decoding) = early(stored, 4080, options.search_limit, out)? {
+        return Ok(decoding);
     }
     let mut shifted = room();
-    let scan = summary::scan_page(number, stored, &mut shifted);
-    let fits = scan.fits;
-    let decoding = verdict::decide_supplied(number, bv, stored[0xFF0], fits, &shifted, options);
-    deliver(decoding.choice, stored, &shifted, out);
-    decoding
+    let fits = summary::scan_page(number, stored, &mut shifted)?;
+    let decoding = verdict::decide_supplied(number, bv, stored[0xFF0], fits, &shifted, options)?;
+    deliver(decoding.choice.bv, stored, &shifted, out);
+    Ok(decoding)
 }
 
 // Room for the shifted bytes. A caller knows its length alone, so that 4,080 zeros stand in no later goal.

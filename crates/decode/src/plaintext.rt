@@ -1,21 +1,15 @@
 // What a decoding writes.
 ghost use Rattle.std.specs.Prelude.{◌≡◌, length};
-ghost use Rattle.lists.specs.Bytes.{less, plain_of};
-ghost use Rattle.decode.specs.Decode.{delivered_of};
+ghost use Rattle.lists.specs.Bytes.{plain_of};
+ghost use Rattle.decode.specs.Decode.{plain_page};
 
-use choice::Choice;
-
-// A page that was written is decided: where the choice is accepted, the plain page is written.
-pub(crate) fn deliver(choice: Choice, stored: &[u8], shifted: &[u8], out: &mut [u8])
+// A page that was written is accepted: the plain page is written.
+pub(crate) fn deliver(bv: u8, stored: &[u8], shifted: &[u8], out: &mut [u8])
     requires { (length stored.now ≡ 4096) × (length out.old ≡ 4096) × (length shifted.now ≡ 4080) }
-    ensures { out.new ≡ delivered_of choice stored.now shifted.now out.old }
+    ensures { out.new ≡ plain_page bv shifted.now stored.now }
 {
-    let answer = choice.answer;
-    if !answer.accepted() {
-        return;
-    }
-    unshift(shifted, choice.bv, &mut out[0..4080]);
-    numbers::copy(&stored[4080..], &mut out[4080..]);
+    unshift(shifted, bv, &mut out[0..4080]);
+    out[4080..].copy_from_slice(&stored[4080..]);
 }
 
 // The plain bytes of shifted ones.
@@ -23,15 +17,7 @@ fn unshift(shifted: &[u8], bv: u8, out: &mut [u8])
     requires { length out.old ≡ length shifted.now }
     ensures { out.new ≡ plain_of bv shifted.now }
 {
-    let mut i: usize = 0;
-    while i < shifted.len() {
-        out[i] = plain_byte(shifted[i], bv);
-        i += 1;
+    for (i, x) in out.iter_mut().enumerate() {
+        *x = shifted[i].wrapping_sub(bv);
     }
-}
-
-fn plain_byte(b: u8, bv: u8) -> u8
-    ensures { result ≡ less b bv }
-{
-    std::num::wrapping_sub_u8(b, bv)
 }

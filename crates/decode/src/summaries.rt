@@ -2,13 +2,15 @@
 ghost use Rattle.std.specs.Prelude.{◌≡◌, length};
 ghost use Rattle.decode.specs.Decode.{decoding_into, supplied_decoding_of, written_of};
 
-use crate::entries::check_entry;
+use crate::entries::early;
 use crate::plaintext::deliver;
 use answers::Options;
+use choice::Refused;
 use sector::Fit;
 use verdict::Decoding;
 
 // `out` is written when the page is accepted, and not before.
+#[tactic(auto, using(crate::proofs::EntryCases::ending), unfolding(crate::specs::Decode::written_of, crate::specs::Decode::decoding_of))]
 pub fn decode_summary(
     number: u64,
     stored: &[u8],
@@ -17,17 +19,12 @@ pub fn decode_summary(
     anchors: &[u8],
     options: Options,
     out: &mut [u8],
-) -> Decoding
+) -> Result<Decoding, Refused>
     ensures { (result ≡ decoding_into number stored.now fits shifted.now anchors.now options out.old)
         × (out.new ≡ written_of result stored.now shifted.now out.old) }
 {
-    let entry = check_entry(stored.len(), out.len(), shifted.len(), options.search_limit);
-    if !entry.accepted() {
-        return verdict::refused(entry);
-    }
-    if page::is_unallocated(stored) {
-        numbers::copy(stored, out);
-        return verdict::unallocated();
+    if let Some(decoding) = early(stored, shifted.len(), options.search_limit, out)? {
+        return Ok(decoding);
     }
     let found = page::check_written(number, stored);
     let decoding = verdict::decide(
@@ -38,12 +35,13 @@ pub fn decode_summary(
         shifted,
         anchors,
         options,
-    );
-    deliver(decoding.choice, stored, shifted, out);
-    decoding
+    )?;
+    deliver(decoding.choice.bv, stored, shifted, out);
+    Ok(decoding)
 }
 
 // The same with a bv that the caller has: nothing is checked but what the page says for it.
+#[tactic(auto, using(crate::proofs::EntryCases::ending), unfolding(crate::specs::Decode::written_of, crate::specs::Decode::supplied_decoding_of))]
 pub fn decode_summary_with_bv(
     number: u64,
     bv: u8,
@@ -52,19 +50,14 @@ pub fn decode_summary_with_bv(
     shifted: &[u8],
     options: Options,
     out: &mut [u8],
-) -> Decoding
+) -> Result<Decoding, Refused>
     ensures { (result ≡ supplied_decoding_of number bv stored.now fits shifted.now options (length out.old))
         × (out.new ≡ written_of result stored.now shifted.now out.old) }
 {
-    let entry = check_entry(stored.len(), out.len(), shifted.len(), options.search_limit);
-    if !entry.accepted() {
-        return verdict::refused(entry);
+    if let Some(decoding) = early(stored, shifted.len(), options.search_limit, out)? {
+        return Ok(decoding);
     }
-    if page::is_unallocated(stored) {
-        numbers::copy(stored, out);
-        return verdict::unallocated();
-    }
-    let decoding = verdict::decide_supplied(number, bv, stored[0xFF0], fits, shifted, options);
-    deliver(decoding.choice, stored, shifted, out);
-    decoding
+    let decoding = verdict::decide_supplied(number, bv, stored[0xFF0], fits, shifted, options)?;
+    deliver(decoding.choice.bv, stored, shifted, out);
+    Ok(decoding)
 }

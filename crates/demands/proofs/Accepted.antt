@@ -9,13 +9,10 @@ use Rattle.lists.specs.Bytes.{byte_at}
 use Rattle.lists.specs.Counts.{all_same}
 use Rattle.lists.proofs.Each.{each_at}
 use Rattle.lists.proofs.Same.{same-each}
-use Rattle.answers.specs.Answers.{is_accepted}
+use Rattle.std.specs.Prelude.{None, Result, Ok, IsOkAnd}
 use Rattle.answers.specs.Settings.{keystream, limit_fits}
-use Rattle.answers.specs.Warns.{no_warnings}
-use Rattle.answers.specs.declared.kinds.Answer.{Answer}
-use Rattle.answers.specs.declared.kinds.Answer.TheVariants as answer
-use Rattle.answers.specs.declared.notices.WarningKind.TheVariants as warning
-use Rattle.answers.specs.declared.notices.Warnings.{Warnings}
+use Rattle.answers.specs.Tables.{empty}
+use Rattle.answers.specs.Warns.{Warnings}
 use Rattle.answers.specs.declared.settings.Options.{Options}
 use Rattle.answers.specs.declared.trust.Confidence.{Confidence}
 use Rattle.answers.specs.declared.trust.Confidence.TheVariants as confidence
@@ -30,6 +27,7 @@ use Rattle.summary.specs.Page.{sector_end, part, fit_at, bytes_at, fits_of, byte
 use Rattle.summary.proofs.Parts.{part_length, part_at, joined_at}
 use Rattle.summary.proofs.Sectors.{bytes-sized, summary-length, summary-exact}
 use Rattle.choice.specs.declared.Choice.{Choice}
+use Rattle.choice.specs.declared.Refused.{Refused}
 use Rattle.choice.specs.Rules.{choice_of}
 use Rattle.meanings.specs.Sources.{SoleVerified, Marked, ByRowCount}
 use Rattle.meanings.proofs.Sources.{choice-means}
@@ -37,6 +35,7 @@ use Rattle.verdict.specs.declared.Decoding.{Decoding}
 use Rattle.verdict.specs.Sectors.{entry, sector_warnings}
 use Rattle.demands.specs.Demand2.{read_page}
 use Rattle.demands.specs.Accepted.{GoodPage, Confident, ReadAs, OneValue, Keyed, Accepts}
+use Rattle.demands.proofs.Refusals.{ok-here}
 use Rattle.demands.proofs.StoredBytes.{summary-bytes}
 use Rattle.demands.proofs.KeyedSectors.{sector-keyed}
 use Rattle.demands.proofs.SoundPages.{page-sure, page-lenient}
@@ -97,62 +96,66 @@ module _
     abbrev shifted : List ℕ
     shifted = bytes_of number stored
 
-    abbrev c : Choice
-    c = choice_of number shifted anchors (row_count_of stored) o
+    abbrev n : ℕ
+    n = row_count_of stored
 
-    abbrev d : Decoding
-    d = read_page number stored anchors o 4096
+    abbrev c : Result Choice Refused
+    c = choice_of number shifted anchors n o
+
+    abbrev r : Result Decoding Refused
+    r = read_page number stored anchors o 4096
+
+    abbrev fits : List Fit
+    fits = fits_of number stored
 
     -- a decoding that has the choice, and the choice's marks
     accepted :
-        (s : Source) (k : Confidence) (ws : Warnings)
-        → d ≡ record { choice = c; fits = fits_of number stored; warnings = ws }
-        → Marked c answer.Accepted s k warning.Nothing
-        → c.bv ≡ bv
-        → ReadAs d bv s k ws
-    accepted s k ws e m v =
-        subst (λ (x : Decoding). ReadAs x bv s k ws) (sym e)
-        (record { answered = m.answered; value = v; from = m.from; trusted = m.trusted; warned = refl })
+        (x : Choice) (s : Source) (k : Confidence) (ws : Warnings)
+        → r ≡ Ok (record { choice = x; fits = fits; warnings = ws })
+        → Marked x s k None
+        → x.bv ≡ bv
+        → ReadAs r bv s k ws
+    accepted x s k ws e m v =
+        record {
+          read = record { choice = x; fits = fits; warnings = ws };
+          answered = e;
+          value = v;
+          from = m.from;
+          trusted = m.trusted;
+          warned = refl;
+        }
 
-    good : (s : Source) (k : Confidence) → Marked c answer.Accepted s k warning.Nothing → is_accepted c.answer ≡ true
-    good s k m = ap (λ (x : Answer). is_accepted x) m.answered
-
-    read-exact : row_count_of stored ≡ 0 → OneValue number stored bv → ReadAs d bv source.ExactSectors confidence.Calibrated no_warnings
+    read-exact : n ≡ 0 → OneValue number stored bv → ReadAs r bv source.ExactSectors confidence.Calibrated empty
     read-exact none one =
         let long : length shifted ≡ 4080 = summary-length number stored sound.whole in
         let small : bv < 256 = subst (λ (v : ℕ). v < 256) (one.at 0 (omega arith)) ((summary-bytes number stored sound.whole).at 0 (omega arith)) in
-        let r =
+        let made =
         choice-means.all-exact number shifted anchors o bv long within small
         (λ s h. (exact-at number stored bv sound.whole one s h, one.at (s * 512) (omega arith))) in
-        let same : choice_of number shifted anchors 0 o ≡ c = ap (λ (n : ℕ). choice_of number shifted anchors n o) (sym none) in
-        let m : Marked c answer.Accepted source.ExactSectors confidence.Calibrated warning.Nothing =
-        subst (λ (x : Choice). Marked x answer.Accepted source.ExactSectors confidence.Calibrated warning.Nothing) same r.0.marked in
-        let v : c.bv ≡ bv = ap (λ (x : Choice). x.bv) (sym same) ∙ r.1 in
-        accepted source.ExactSectors confidence.Calibrated no_warnings
-        (page-sure number stored anchors o sound within (good source.ExactSectors confidence.Calibrated m) m.warned
-        (confident number stored bv sound.whole one))
-        m v
+        let same : choice_of number shifted anchors 0 o ≡ c = ap (λ (m : ℕ). choice_of number shifted anchors m o) (sym none) in
+        let w = ok-here (choice_of number shifted anchors 0 o) made in
+        let m : Marked w.0 source.ExactSectors confidence.Calibrated None = w.2.0.marked in
+        accepted w.0 source.ExactSectors confidence.Calibrated empty
+        (page-sure number stored anchors o sound within w.0 (sym same ∙ w.1) m.warned (confident number stored bv sound.whole one)) m w.2.1
 
-    module _ (sole : SoleVerified o.search_limit shifted anchors (row_count_of stored) o.min_trailer_count bv) where
-      taken : ByRowCount number shifted anchors (row_count_of stored) o c × (c.bv ≡ bv)
+    module _ (sole : SoleVerified o.search_limit shifted anchors n o.min_trailer_count bv) where
+      taken : IsOkAnd c (λ x. ByRowCount number shifted anchors n o x × (x.bv ≡ bv))
       taken =
-          (choice-means.made number shifted anchors (row_count_of stored) o).row_count
+          (choice-means.made number shifted anchors n o).row_count
           (record { long = summary-length number stored sound.whole; within = within; bytes = summary-bytes number stored sound.whole }) bv sole
 
-      marked : Marked c answer.Accepted source.TrailerRowCount confidence.Verified warning.Nothing
-      marked = taken.0.marked
-
-      read-verified : Confident (fits_of number stored) → ReadAs d bv source.TrailerRowCount confidence.Verified no_warnings
+      read-verified : Confident fits → ReadAs r bv source.TrailerRowCount confidence.Verified empty
       read-verified sure =
-          accepted source.TrailerRowCount confidence.Verified no_warnings
-          (page-sure number stored anchors o sound within (good source.TrailerRowCount confidence.Verified marked) marked.warned sure) marked taken.1
+          let w = ok-here c taken in
+          let m : Marked w.0 source.TrailerRowCount confidence.Verified None = w.2.0.marked in
+          accepted w.0 source.TrailerRowCount confidence.Verified empty (page-sure number stored anchors o sound within w.0 w.1 m.warned sure) m w.2.1
 
-      read-let-through :
-          keystream o ≡ true
-          → ReadAs d bv source.TrailerRowCount confidence.Verified (sector_warnings number (fits_of number stored) no_warnings 8)
+      read-let-through : keystream o ≡ true → ReadAs r bv source.TrailerRowCount confidence.Verified (sector_warnings number fits empty 8)
       read-let-through l =
-          accepted source.TrailerRowCount confidence.Verified (sector_warnings number (fits_of number stored) no_warnings 8)
-          (page-lenient number stored anchors o sound within (good source.TrailerRowCount confidence.Verified marked) marked.warned l) marked taken.1
+          let w = ok-here c taken in
+          let m : Marked w.0 source.TrailerRowCount confidence.Verified None = w.2.0.marked in
+          accepted w.0 source.TrailerRowCount confidence.Verified (sector_warnings number fits empty 8)
+          (page-lenient number stored anchors o sound within w.0 w.1 m.warned l) m w.2.1
 
 pub accepts : Accepts
 accepts =

@@ -8,15 +8,25 @@ use lib.Dec.{eqb}
 use Rattle.lists.specs.Cases.{pick}
 use Rattle.lists.specs.Counts.{is_in}
 use Rattle.lists.specs.Pieces.{among}
+use Rattle.std.specs.Prelude.{Result}
+use Rattle.std.proofs.Math.Bool.{or_comm, or_self}
+use Rattle.answers.specs.Answers.{Answer}
+use Rattle.answers.specs.Settings.{keystream}
+use Rattle.answers.specs.Tables.{empty}
+use Rattle.answers.specs.Warns.{Warnings}
 use Rattle.answers.specs.declared.settings.Options.{Options}
 use Rattle.sector.specs.declared.fits.Fit.{Fit}
 use Rattle.page.specs.Trailer.{row_count_of}
+use Rattle.page.specs.Integrity.{integrity_of}
 use Rattle.summary.specs.Page.{fits_of, bytes_of}
 use Rattle.votes.specs.Votes.{counts_of, ballots, is_candidate, candidate_of, candidates_below, assessment_of}
-use Rattle.choice.specs.Rules.{choice_of}
+use Rattle.choice.specs.declared.Choice.{Choice}
+use Rattle.choice.specs.declared.Refused.{Refused}
+use Rattle.choice.specs.Rules.{unless_refused, choice_of}
 use Rattle.meanings.specs.Values.{stands_for}
-use Rattle.verdict.specs.Verdict.{verdict_by, verdict_of}
-use Rattle.decode.specs.Decode.{decoding_of}
+use Rattle.verdict.specs.Sectors.{refit_of}
+use Rattle.verdict.specs.Verdict.{warning_noted, settled_of, integrity_warning, integrity_left, verdict_by, verdict_of}
+use Rattle.decode.specs.Decode.{entry_checked, decoding_of}
 use Rattle.demands.specs.Anchors.{SameCandidates, AnchorsAreASet}
 
 -- a value is in two lists one after the other if it is in one of them
@@ -28,16 +38,6 @@ in-append v (x ∷ a) b = go (eqb v x) (in-append v a b)
     go : (c : Bool) → is_in v (a ++ b) ≡ (is_in v a || is_in v b) → pick c true (is_in v (a ++ b)) ≡ (pick c true (is_in v a) || is_in v b)
     go true h = refl
     go false h = h
-
-or-order : (a b : Bool) → (a || b) ≡ (b || a)
-or-order true true = refl
-or-order true false = refl
-or-order false true = refl
-or-order false false = refl
-
-or_same : (a : Bool) → (a || a) ≡ a
-or_same true = refl
-or_same false = refl
 
 -- `among` asks its function of those alone that pass
 among-ext :
@@ -72,12 +72,21 @@ same-choice :
 unfolding choice_of
 same-choice number shifted a b n o s = rw (same-assessment o.search_limit shifted n o.min_trailer_count a b s)
 
+module _ (number n : ℕ) (fits : List Fit) (shifted a b : List ℕ) (o : Options) (s : SameCandidates shifted a b) where
+  same-verdict : (x : Answer) → verdict_by number x n fits shifted a o ≡ verdict_by number x n fits shifted b o
+  unfolding verdict_by
+  same-verdict x =
+      let ws : Warnings = warning_noted number (integrity_warning x) empty in
+      ap (λ (c : Result Choice Refused). unless_refused (integrity_left x o) (settled_of number (keystream o) (refit_of fits shifted) c ws))
+      (same-choice number shifted a b n o s)
+
 same-decoding :
     (number : ℕ) (stored : List ℕ) (fits : List Fit) (shifted a b : List ℕ) (o : Options) (m : ℕ)
     → SameCandidates shifted a b
     → decoding_of number stored fits shifted a o m ≡ decoding_of number stored fits shifted b o m
-unfolding decoding_of verdict_of verdict_by
-same-decoding number stored fits shifted a b o m s = rw (same-choice number shifted a b (row_count_of stored) o s)
+unfolding decoding_of verdict_of
+same-decoding number stored fits shifted a b o m s =
+    ap (entry_checked stored shifted m o.search_limit) (same-verdict number (row_count_of stored) fits shifted a b o s (integrity_of number stored))
 
 pub anchors-are-a-set : AnchorsAreASet
 anchors-are-a-set =
@@ -86,6 +95,6 @@ anchors-are-a-set =
       decoding = same-decoding;
       read = λ number stored a b o m s. same-decoding number stored (fits_of number stored) (bytes_of number stored) a b o m s;
       members = λ shifted a b s. record { both = λ v h q. s.both v h };
-      order = λ a b. record { both = λ v h. in-append v a b ∙ or-order (is_in v a) (is_in v b) ∙ sym (in-append v b a) };
-      repeats = λ a. record { both = λ v h. in-append v a a ∙ or_same (is_in v a) };
+      order = λ a b. record { both = λ v h. in-append v a b ∙ or_comm (is_in v a) (is_in v b) ∙ sym (in-append v b a) };
+      repeats = λ a. record { both = λ v h. in-append v a a ∙ or_self (is_in v a) };
     }

@@ -34,4 +34,4 @@ module _ (lim : ℕ) (shifted anchors : List ℕ) (n t : ℕ) (g : Group) (long 
   pub group-ascends : Ascending (bvs_of (group g (assessment_of lim shifted anchors n t)))
   group-ascends =
       subst (λ (l : List Candidate). Ascending (bvs_of l)) (sym (group-values lim shifted anchors n t long g))
-      (record { rising = (group-lists lim shifted anchors n t in_group few).ascending })
+      (let lists = group-lists lim shifted anchors n t in_group few in record { held = lists.held; rising = lists.ascending })

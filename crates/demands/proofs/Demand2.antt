@@ -2,6 +2,7 @@
 use Prim.Native.Nat.{ℕ, ◌+◌, ◌-◌, ◌*◌, ◌%◌, ◌≤◌, ◌<◌}
 use mathlib.Core.Path.{◌≡◌, sym, ap, ap₂, ◌∙◌, subst}
 use mathlib.Core.Bool.{true, false, ◌&&◌}
+use Rattle.std.specs.Prelude.{Some, Result, Ok}
 use mathlib.Core.List.{List}
 use native.Mathlib.Omega.{arith}
 use lib.ListN.{length, get_or, take, drop, length-append, length-drop}
@@ -12,7 +13,6 @@ use Rattle.lists.specs.Counts.{count}
 use Rattle.lists.proofs.Each.{each_at}
 use Rattle.lists.proofs.AllBytes.{count-plain}
 use Rattle.lists.proofs.Plain.{plain-length}
-use Rattle.answers.specs.Answers.{is_accepted}
 use Rattle.answers.specs.Settings.{limit_fits}
 use Rattle.answers.proofs.Limits.{limit-within}
 use Rattle.answers.specs.declared.settings.Options.{Options}
@@ -34,6 +34,7 @@ use Rattle.votes.specs.declared.Candidate.{Candidate}
 use Rattle.votes.specs.declared.Assessment.{Assessment}
 use Rattle.votes.proofs.Meaning.{counts-at}
 use Rattle.choice.specs.declared.Choice.{Choice}
+use Rattle.choice.specs.declared.Refused.{Refused}
 use Rattle.groups.specs.declared.Group.TheVariants.{Others}
 use Rattle.groups.specs.Groups.{group, most_of}
 use Rattle.choice.specs.Rules.{choice_of}
@@ -70,12 +71,13 @@ module _
     (number : ℕ)
     (stored out : List ℕ)
     (m lim : ℕ)
-    (c : Choice)
-    (d : Decoding)
-    (w : Whole stored (bytes_of number stored) m lim c (refit_of (fits_of number stored) (bytes_of number stored)) d)
+    (c : Result Choice Refused)
+    (r : Result Decoding Refused)
+    (w : Whole stored (bytes_of number stored) m lim c (refit_of (fits_of number stored) (bytes_of number stored)) r)
     (all : AllBytes stored)
     (used : is_unallocated stored ≡ false)
-    (good : is_accepted d.choice.answer ≡ true)
+    (d : Decoding)
+    (good : r ≡ Ok d)
   where
     abbrev shifted : List ℕ
     shifted = bytes_of number stored
@@ -84,23 +86,23 @@ module _
     bv = d.choice.bv
 
     abbrev written : List ℕ
-    written = written_of d stored shifted out
+    written = written_of (Ok d) stored shifted out
 
     long : length stored ≡ 4096
-    long = (w.lengths good).0
+    long = (w.lengths d good).0
 
     plain-long : length (plain_of bv shifted) ≡ 4080
-    plain-long = plain-length bv shifted ∙ (w.lengths good).1.1
+    plain-long = plain-length bv shifted ∙ (w.lengths d good).1.1
 
     written_is : written ≡ plain_page bv shifted stored
     unfolding written_of
-    written_is = rw (good, used)
+    written_is = rw used
 
     taken_is : take 4080 written ≡ plain_of bv shifted
     taken_is = ap (take 4080) written_is ∙ take_at (plain_of bv shifted) (drop 4080 stored) 4080 plain-long
 
     fits-are : d.fits ≡ fits_of number stored
-    fits-are = (w.accepted used good).1 ∙ refit-fresh number stored long
+    fits-are = (w.accepted used d good).1 ∙ refit-fresh number stored long
 
     fit_is : (s : ℕ) → s < 8 → entry d.fits s ≡ fit_at number stored s
     fit_is s h = ap (λ (f : List Fit). entry f s) fits-are ∙ each_at (fit_at number stored) 8 s blank_fit h
@@ -144,115 +146,105 @@ module _
     (out : List ℕ)
     (all : AllBytes stored)
     (used : is_unallocated stored ≡ false)
+    (d : Decoding)
+    (good : read_page number stored anchors o (length out) ≡ Ok d)
   where
-    abbrev d : Decoding
-    d = read_page number stored anchors o (length out)
+    abbrev n : ℕ
+    n = row_count_of stored
 
-    module _ (good : is_accepted d.choice.answer ≡ true) where
-      abbrev n : ℕ
-      n = row_count_of stored
+    abbrev lim : ℕ
+    lim = o.search_limit
 
-      abbrev lim : ℕ
-      lim = o.search_limit
+    abbrev summary : List ℕ
+    summary = bytes_of number stored
 
-      abbrev a : Assessment
-      a = assessment_of lim (bytes_of number stored) anchors n o.min_trailer_count
+    abbrev a : Assessment
+    a = assessment_of lim summary anchors n o.min_trailer_count
 
-      w : Whole stored (bytes_of number stored) (length out) lim (choice_of number (bytes_of number stored) anchors n o) (refit_of (fits_of number stored) (bytes_of number stored)) d
-      w = decoding-whole number stored (fits_of number stored) (bytes_of number stored) o (length out) anchors
+    abbrev c : Choice
+    c = d.choice
 
-      read-recovered : Recovered number stored d (left_in out number stored d)
-      read-recovered = recovered number stored out (length out) lim (choice_of number (bytes_of number stored) anchors n o) d w all used good
+    w : Whole stored summary (length out) lim (choice_of number summary anchors n o) (refit_of (fits_of number stored) summary) (read_page number stored anchors o (length out))
+    w = decoding-whole number stored (fits_of number stored) summary o (length out) anchors
 
-      ruled : d.choice ≡ choice_of number (bytes_of number stored) anchors n o
-      ruled = (w.accepted used good).0
+    abbrev written-page : List ℕ
+    written-page = left_in out number stored (Ok d)
 
-      summarized : AllBytes (bytes_of number stored)
-      summarized = summary-bytes number stored (w.lengths good).0
+    read-recovered : Recovered number stored d written-page
+    read-recovered = recovered number stored out (length out) lim (choice_of number summary anchors n o) (read_page number stored anchors o (length out)) w all used d good
 
-      chosen : Chosen lim (bytes_of number stored) anchors n o.min_trailer_count (choice_of number (bytes_of number stored) anchors n o)
-      chosen =
-          chosen-stands number (bytes_of number stored) anchors n o summarized (ap (λ (c : Choice). is_accepted c.answer) (sym ruled) ∙ good)
+    ruled : choice_of number summary anchors n o ≡ Ok c
+    ruled = (w.accepted used d good).0
 
-      abbrev v : ℕ
-      v = (choice_of number (bytes_of number stored) anchors n o).bv
+    summarized : AllBytes summary
+    summarized = summary-bytes number stored (w.lengths d good).0
 
-      bv-is : d.choice.bv ≡ v
-      bv-is = ap (λ (c : Choice). c.bv) ruled
+    chosen : Chosen lim summary anchors n o.min_trailer_count c
+    chosen = chosen-stands number summary anchors n o summarized c ruled
 
-      small : d.choice.bv < 256
-      small = omega (arith, bv-is, chosen.byte)
+    abbrev taken : Candidate
+    taken = candidate_of lim summary anchors n o.min_trailer_count c.bv
 
-      abbrev taken : Candidate
-      taken = candidate_of lim (bytes_of number stored) anchors n o.min_trailer_count v
+    zeros-are : taken.zeros ≡ count 0 (take 4080 written-page)
+    unfolding candidate_of
+    zeros-are =
+        counts-at summary c.bv chosen.byte
+        ∙ sym (count-plain c.bv summary chosen.byte summarized)
+        ∙ ap (count 0)
+        (sym (taken_is number stored out (length out) lim (choice_of number summary anchors n o) (read_page number stored anchors o (length out)) w all used d good))
 
-      zeros-are : taken.zeros ≡ count 0 (take 4080 (left_in out number stored d))
-      unfolding candidate_of
-      zeros-are =
-          counts-at (bytes_of number stored) v chosen.byte
-          ∙ ap (λ (x : ℕ). count x (bytes_of number stored)) (sym bv-is)
-          ∙ sym (count-plain d.choice.bv (bytes_of number stored) small summarized)
-          ∙ ap (count 0) (sym (taken_is number stored out (length out) lim (choice_of number (bytes_of number stored) anchors n o) d w all used good))
+    page-is : written-page ≡ plain_page c.bv summary stored
+    page-is = written_is number stored out (length out) lim (choice_of number summary anchors n o) (read_page number stored anchors o (length out)) w all used d good
 
-      abbrev written-page : List ℕ
-      written-page = left_in out number stored d
+    row-count-is : row_count_of written-page ≡ n
+    row-count-is =
+        sym (get_or-drop 4080 written-page 0 0) ∙ ap (λ (l : List ℕ). get_or l 0 0) read-recovered.trailer ∙ get_or-drop 4080 stored 0 0
 
-      page-is : written-page ≡ plain_page d.choice.bv (bytes_of number stored) stored
-      page-is = written_is number stored out (length out) lim (choice_of number (bytes_of number stored) anchors n o) d w all used good
+    -- the source says that the data written pass the test; the trailer behind them plays no part in it
+    written-passes :
+        c.source ≡ source.TrailerRowCount
+        → (0 < row_count_of written-page) × (page_matches lim written-page o.min_trailer_count ≡ true)
+    unfolding page_matches
+    written-passes h =
+        let within : limit_fits lim ≡ true = w.limit d good in
+        let most : lim ≤ 2048 = (limit-within lim within).1 in
+        let said : ByRowCount number summary anchors n o c = (choice-means.said number summary anchors n o summarized).row_count c ruled h in
+        let plain : List ℕ = plain_of c.bv summary in
+        let long : length plain ≡ 4080 = plain-length c.bv summary ∙ (w.lengths d good).1.1 in
+        let passes : row_count_matches lim plain n o.min_trailer_count ≡ true = said.sole.passes in (
+          omega (arith, row-count-is, said.sole.rows),
+          ap₂ ◌&&◌ (eq-eqb (length written-page) 4096 read-recovered.whole)
+              (ap₂ ◌&&◌ within
+              (ap₂ (λ (p : List ℕ) (k : ℕ). row_count_matches lim p k o.min_trailer_count) page-is row-count-is
+              ∙ matches-data plain (drop 4080 stored) lim n o.min_trailer_count (omega arith)
+              ∙ passes)),
+        )
 
-      row-count-is : row_count_of written-page ≡ n
-      row-count-is =
-          sym (get_or-drop 4080 written-page 0 0) ∙ ap (λ (l : List ℕ). get_or l 0 0) read-recovered.trailer ∙ get_or-drop 4080 stored 0 0
-
-      -- the source says that the data written pass the test; the trailer behind them plays no part in it
-      written-passes :
-          d.choice.source ≡ source.TrailerRowCount
-          → (0 < row_count_of written-page) × (page_matches lim written-page o.min_trailer_count ≡ true)
-      unfolding page_matches
-      written-passes h =
-          let within : limit_fits lim ≡ true = w.limit good in
-          let most : lim ≤ 2048 = (limit-within lim within).1 in
-          let e : (choice_of number (bytes_of number stored) anchors n o).source ≡ source.TrailerRowCount = ap (λ (c : Choice). c.source) (sym ruled) ∙ h in
-          let said : ByRowCount number (bytes_of number stored) anchors n o (choice_of number (bytes_of number stored) anchors n o) =
-          (choice-means.said number (bytes_of number stored) anchors n o summarized).row_count e in
-          let plain : List ℕ = plain_of d.choice.bv (bytes_of number stored) in
-          let long : length plain ≡ 4080 = plain-length d.choice.bv (bytes_of number stored) ∙ (w.lengths good).1.1 in
-          let passes : row_count_matches lim plain n o.min_trailer_count ≡ true =
-          ap (λ (x : ℕ). row_count_matches lim (plain_of x (bytes_of number stored)) n o.min_trailer_count) bv-is ∙ said.sole.passes in (
-            omega (arith, row-count-is, said.sole.rows),
-            ap₂ ◌&&◌ (eq-eqb (length written-page) 4096 read-recovered.whole)
-                (ap₂ ◌&&◌ within
-                (ap₂ (λ (p : List ℕ) (k : ℕ). row_count_matches lim p k o.min_trailer_count) page-is row-count-is
-                ∙ matches-data plain (drop 4080 stored) lim n o.min_trailer_count (omega arith)
-                ∙ passes)),
-          )
-
-      read-evident : Evident number stored anchors o d (left_in out number stored d)
-      unfolding candidate_of
-      read-evident =
-          record {
-            choice = ruled;
-            byte = small;
-            passes = written-passes;
-            mass =
-                ap (λ (c : Choice). last_of c.grounds) ruled
-                ∙ ap last_of chosen.grounds
-                ∙ last-mass a taken
-                ∙ ap₂ (λ (z x : ℕ). evidence.ZeroMass z (z - most_of (group (Others x) a))) zeros-are (sym bv-is);
-          }
+    read-evident : Evident number stored anchors o d written-page
+    unfolding candidate_of
+    read-evident =
+        record {
+          choice = ruled;
+          byte = chosen.byte;
+          passes = written-passes;
+          mass =
+              ap last_of chosen.grounds
+              ∙ last-mass a taken
+              ∙ ap (λ (z : ℕ). Some (evidence.ZeroMass z (z - most_of (group (Others c.bv) a)))) zeros-are;
+        }
 
 pub recovers : Recovers
 recovers =
     record {
-      read = λ number stored anchors o out all used good. (
-        read-recovered number stored anchors o out all used good,
-        read-evident number stored anchors o out all used good,
+      read = λ number stored anchors o out all used d good. (
+        read-recovered number stored anchors o out all used d good,
+        read-evident number stored anchors o out all used d good,
       );
       supplied =
-          λ number bv stored o out all used good.
+          λ number bv stored o out all used d good.
           let w = supplied-whole number stored (fits_of number stored) (bytes_of number stored) o (length out) bv in (
             recovered number stored out (length out) o.search_limit (supplied_of number bv (bytes_of number stored) (row_count_of stored) o) (read_with number bv stored o (length out)) w
-                all used good,
-            (w.accepted used good).0,
+                all used d good,
+            (w.accepted used d good).0,
           );
     }

@@ -7,6 +7,7 @@ pub mod Demand2
 pub mod Demand3
 pub mod Anchors
 pub mod SingleOutcome
+pub mod Refusals
 pub mod DecodingCases
 pub mod TopCandidate
 pub mod CandidatesAscend

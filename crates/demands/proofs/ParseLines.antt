@@ -1,38 +1,35 @@
--- The lines of the answers that a parse can give, in any table that has them; and what a refused one has beside its answer. Assumes nothing.
+-- The lines of the answers that a parse can give, in any table that has them. Assumes nothing.
 use Prim.Native.Nat.{ℕ, ◌+◌, ◌*◌}
-use mathlib.Core.Path.{◌≡◌, refl, sym, ap, ◌∙◌, subst}
+use mathlib.Core.Path.{◌≡◌, refl, ap, ap₂, ◌∙◌, subst}
 use mathlib.Core.Bool.{Bool, true, false}
 use mathlib.Core.List.{List, [], ◌∷◌}
 use native.Mathlib.Omega.{arith}
 use borrow.Author.Tests.{eqb-true, eqb-false, lt-ltb, le-ltb}
 use lib.Dec.{eqb, ltb}
 use lib.ListN.{length}
+use Rattle.std.specs.Prelude.{Option, Some, None, Ok, Err}
 use Rattle.lists.specs.Cases.{pick}
-use Rattle.lists.specs.Pieces.{each, keep}
 use Rattle.lists.proofs.Booleans.{and_yes, and-no-left, and-no-right}
-use Rattle.lists.proofs.Picks.{pick-case, never_both}
-use Rattle.answers.specs.Answers.{reason_number, number_of, values_of, is_accepted}
+use Rattle.lists.proofs.Picks.{pick-case}
+use Rattle.answers.specs.Answers.{reason_number, refusal_number, refusal_values}
 use Rattle.answers.specs.Settings.{limit_fits}
 use Rattle.answers.specs.declared.kinds.Reason.TheVariants.{CountBelowFour, FewerThanEightLive, Unconfirmed}
 use Rattle.answers.specs.declared.notices.WarningKind.{WarningKind}
 use Rattle.answers.specs.declared.notices.WarningKind.TheVariants as warning
 use Rattle.page.specs.Trailer.{row_count_of}
 use Rattle.slots.specs.Slots.{scanned_directory}
-use Rattle.slots.specs.declared.scans.Found.{Found}
-use Rattle.slots.specs.declared.scans.Found.TheVariants as scan
+use Rattle.slots.specs.declared.scans.Scan.{Scan}
 use Rattle.preludes.specs.Preludes.{prelude_of}
 use Rattle.preludes.specs.declared.search.Prelude.{Prelude}
 use Rattle.preludes.specs.declared.search.Prelude.TheVariants as prelude
 use Rattle.directory.specs.Directory.{inside_of}
-use Rattle.directory.specs.Decisions.{answer_of, verdict_refused, verdict_taken, few_of, reason_of, unconfirmed_of, many_of, found_of, inside_checked_by, inside_checked, decision_of}
-use Rattle.slotted.specs.Parses.{warned, parsed_by}
-use Rattle.directory.specs.declared.verdicts.Verdict.{Verdict}
-use Rattle.directory.specs.declared.verdicts.Verdict.TheVariants as verdict
+use Rattle.directory.specs.Decisions.{Decision, refusal_of, answer_of, listed_of, few_of, reason_of, unconfirmed_of, many_of, found_of, inside_checked_by, listed_checked, inside_checked, decision_of}
+use Rattle.directory.specs.declared.verdicts.Unlisted.{Unlisted}
+use Rattle.directory.specs.declared.verdicts.Unlisted.TheVariants as unlisted
 use Rattle.directory.specs.declared.verdicts.Listed.{Listed}
 use Rattle.directory.specs.declared.verdicts.Decided.{Decided}
 use Rattle.rows.specs.Rows.{head_or}
-use Rattle.demands.specs.Told.{Line, values_at, live_in, is_few, reason_at, found_in, stop_in, prelude_at, offset_at, end_at}
-use Rattle.demands.specs.Demand1.{NoDirectory}
+use Rattle.demands.specs.Told.{Line, OneOf, live_in, is_few, reason_at, found_in, stop_in, prelude_at, offset_in, offset_at, end_in, end_at}
 use Rattle.demands.proofs.AnswerLines.{Has}
 
 -- a table has the lines of a parse
@@ -46,24 +43,16 @@ pub record HasParse (lines : List Line) (lim number : ℕ) (plain : List ℕ) : 
   pub twelve : Has lines 12 (number ∷ offset_at lim plain ∷ end_at lim plain ∷ [])
   pub twenty : limit_fits lim ≡ false → Has lines 20 (lim ∷ [])
 
--- what is decided stands in a table; a refusal lists nothing and warns of nothing
-pub record Settles (lines : List Line) (number : ℕ) (d : Decided) : Type 0 where
-  pub is : values_at (number_of (answer_of number d.verdict)) lines ≡ values_of (answer_of number d.verdict) ∷ []
-  pub quiet : is_accepted (answer_of number d.verdict) ≡ false → d ≡ verdict_refused d.verdict
-
-none_inside : (plain : List ℕ) → inside_of plain 0 0 ≡ []
-unfolding inside_of keep each
-none_inside plain = refl
+-- what is decided stands in a table
+abbrev pub Settles : List Line → ℕ → Decision → Type 0
+Settles lines number d = OneOf lines (answer_of number d)
 
 module _ (lines : List Line) (lim number : ℕ) (plain : List ℕ) (h : HasParse lines lim number plain) where
   abbrev n : ℕ
   n = row_count_of plain
 
-  taken_is : (l : Listed) (a b : WarningKind) → Settles lines number (verdict_taken l a b)
-  taken_is l a b = record { is = h.zero; quiet = λ e. absurd (never_both e refl) }
-
-  refused-is : (v : Verdict) → Has lines (number_of (answer_of number v)) (values_of (answer_of number v)) → Settles lines number (verdict_refused v)
-  refused-is v e = record { is = e; quiet = λ f. refl }
+  refused-is : (u : Unlisted) → Has lines (refusal_number (refusal_of number u)) (refusal_values (refusal_of number u)) → Settles lines number (Err u)
+  refused-is u e = record { is = e }
 
   -- the reasons of 8
   few-reason : is_few n ≡ true → reason_at lim plain ≡ 1
@@ -83,50 +72,51 @@ module _ (lines : List Line) (lim number : ℕ) (plain : List ℕ) (h : HasParse
 
   -- by the row count
   on-scan :
-      (f : Found) (lenient counted : Bool) (before : WarningKind)
+      (f : Option Scan) (lenient counted : Bool) (before : Option WarningKind)
       → scanned_directory lim plain ≡ f
       → is_few n ≡ false
       → Settles lines number (unconfirmed_of f lenient counted before)
-  on-scan (scan.Directory d) false counted before e k =
-      refused-is (verdict.NoDirectory (reason_of d.live)) (eight_is _ (scan-reason d.live k (ap live_in e)))
-  on-scan (scan.Directory d) true counted before e k = taken_is _ _ _
-  on-scan scan.Nothing false false before e k = taken_is _ _ _
-  on-scan scan.Nothing true false before e k = taken_is _ _ _
-  on-scan scan.Nothing false true before e k = refused-is verdict.NoPrelude h.nine
-  on-scan scan.Nothing true true before e k = taken_is _ _ _
+  on-scan (Some d) false counted before e k =
+      refused-is (unlisted.NoDirectory (reason_of d.live)) (eight_is _ (scan-reason d.live k (ap live_in e)))
+  on-scan (Some d) true counted before e k = record { is = h.zero }
+  on-scan None false false before e k = record { is = h.zero }
+  on-scan None true false before e k = record { is = h.zero }
+  on-scan None false true before e k = refused-is unlisted.NoPrelude h.nine
+  on-scan None true true before e k = record { is = h.zero }
 
   on-few : (p : Prelude) (lenient : Bool) → is_few n ≡ true → Settles lines number (few_of p n lenient)
-  on-few prelude.Missing false k = refused-is verdict.NoPrelude h.nine
-  on-few prelude.Missing true k = taken_is _ _ _
-  on-few (prelude.Truncated found stop) false k = refused-is verdict.NoPrelude h.nine
-  on-few (prelude.Truncated found stop) true k = taken_is _ _ _
-  on-few (prelude.One s) false k = refused-is (verdict.NoDirectory CountBelowFour) (eight_is 1 (few-reason k))
-  on-few (prelude.One s) true k = taken_is _ _ _
-  on-few prelude.Several false k = refused-is (verdict.NoDirectory CountBelowFour) (eight_is 1 (few-reason k))
-  on-few prelude.Several true k = taken_is _ _ _
+  on-few prelude.Missing false k = refused-is unlisted.NoPrelude h.nine
+  on-few prelude.Missing true k = record { is = h.zero }
+  on-few (prelude.Truncated found stop) false k = refused-is unlisted.NoPrelude h.nine
+  on-few (prelude.Truncated found stop) true k = record { is = h.zero }
+  on-few (prelude.One s) false k = refused-is (unlisted.NoDirectory CountBelowFour) (eight_is 1 (few-reason k))
+  on-few (prelude.One s) true k = record { is = h.zero }
+  on-few prelude.Several false k = refused-is (unlisted.NoDirectory CountBelowFour) (eight_is 1 (few-reason k))
+  on-few prelude.Several true k = record { is = h.zero }
 
   on-many :
       (p : Prelude) (lenient : Bool)
       → prelude_of lim plain n ≡ p
       → is_few n ≡ false
       → Settles lines number (many_of p n (scanned_directory lim plain) lenient)
-  on-many (prelude.One s) lenient e k = taken_is _ _ _
-  on-many prelude.Missing lenient e k = on-scan (scanned_directory lim plain) lenient true warning.Nothing refl k
+  on-many (prelude.One s) lenient e k = record { is = h.zero }
+  on-many prelude.Missing lenient e k = on-scan (scanned_directory lim plain) lenient true None refl k
   on-many (prelude.Truncated found stop) false e k =
-      refused-is (verdict.Truncated found n stop) (h.ten ∙ ap (λ (q : Prelude). (number ∷ found_in q ∷ n ∷ stop_in q ∷ []) ∷ []) e)
-  on-many (prelude.Truncated found stop) true e k = on-scan (scanned_directory lim plain) true true (warning.SlotDirectoryTruncated found n) refl k
-  on-many prelude.Several false e k = refused-is verdict.Ambiguous h.eleven
-  on-many prelude.Several true e k = on-scan (scanned_directory lim plain) true true warning.AmbiguousSlotDirectory refl k
+      refused-is (unlisted.Truncated found n stop) (h.ten ∙ ap (λ (q : Prelude). (number ∷ found_in q ∷ n ∷ stop_in q ∷ []) ∷ []) e)
+  on-many (prelude.Truncated found stop) true e k =
+      on-scan (scanned_directory lim plain) true true (Some (warning.SlotDirectoryTruncated found n)) refl k
+  on-many prelude.Several false e k = refused-is unlisted.Ambiguous h.eleven
+  on-many prelude.Several true e k = on-scan (scanned_directory lim plain) true true (Some warning.AmbiguousSlotDirectory) refl k
 
   on-found : (lenient : Bool) → Settles lines number (found_of lim plain n lenient)
   unfolding found_of
   on-found lenient =
-      let none : Decided = unconfirmed_of (scanned_directory lim plain) lenient false warning.Nothing in
-      let few : Decided = few_of (prelude_of lim plain n) n lenient in
-      let many : Decided = many_of (prelude_of lim plain n) n (scanned_directory lim plain) lenient in
+      let none : Decision = unconfirmed_of (scanned_directory lim plain) lenient false None in
+      let few : Decision = few_of (prelude_of lim plain n) n lenient in
+      let many : Decision = many_of (prelude_of lim plain n) n (scanned_directory lim plain) lenient in
       pick-case (Settles lines number) (eqb n 0) none (pick (ltb n 4) few many)
       (λ e.
-      on-scan (scanned_directory lim plain) lenient false warning.Nothing refl
+      on-scan (scanned_directory lim plain) lenient false None refl
       (and-no-left (ltb 0 n) (ltb n 4) (le-ltb 0 n (omega (arith, eqb-true n 0 e)))))
       (λ e.
       pick-case (Settles lines number) (ltb n 4) few many
@@ -134,54 +124,38 @@ module _ (lines : List Line) (lim number : ℕ) (plain : List ℕ) (h : HasParse
       (λ f. on-many (prelude_of lim plain n) lenient refl (and-no-right (ltb 0 n) (ltb n 4) f)))
 
   -- offsets inside the directory
-  on-inside : (lenient : Bool) → Settles lines number (inside_checked plain lenient (found_of lim plain n lenient))
+  on-inside :
+      (lenient : Bool) (d : Decided) (l : Listed) (inside : List ℕ)
+      → listed_of (found_of lim plain n lenient) ≡ Some l
+      → inside_of plain l.start l.count ≡ inside
+      → Settles lines number (inside_checked_by lenient d (l.start + 2 * l.count) inside)
   unfolding offset_at end_at
-  on-inside false = go (inside_of plain d.listed.start d.listed.count) refl
-    where
-      d : Decided
-      d = found_of lim plain n false
+  on-inside true d l [] e f = record { is = h.zero }
+  on-inside true d l (v ∷ more) e f = record { is = h.zero }
+  on-inside false d l [] e f = record { is = h.zero }
+  on-inside false d l (v ∷ more) e f =
+      refused-is (unlisted.OffsetInside v (l.start + 2 * l.count))
+      (h.twelve ∙ ap₂ (λ (x y : ℕ). (number ∷ x ∷ y ∷ []) ∷ []) (ap (offset_in plain) e ∙ ap (head_or 0) f) (ap end_in e))
 
-      end : ℕ
-      end = d.listed.start + 2 * d.listed.count
+  on-listed :
+      (lenient : Bool) (d : Decided) (l : Option Listed)
+      → listed_of (found_of lim plain n lenient) ≡ l
+      → Settles lines number (listed_checked plain lenient d l)
+  on-listed lenient d None e = record { is = h.zero }
+  on-listed lenient d (Some l) e = on-inside lenient d l (inside_of plain l.start l.count) e refl
 
-      go : (l : List ℕ) → inside_of plain d.listed.start d.listed.count ≡ l → Settles lines number (inside_checked_by false d end l)
-      go [] e = on-found false
-      go (v ∷ l) e = refused-is (verdict.OffsetInside v end) (h.twelve ∙ ap (λ (x : List ℕ). (number ∷ head_or 0 x ∷ end ∷ []) ∷ []) e)
-  on-inside true = go (inside_of plain d.listed.start d.listed.count) refl
-    where
-      d : Decided
-      d = found_of lim plain n true
-
-      -- nothing lies inside a directory that is not there
-      nothing : is_accepted (answer_of number d.verdict) ≡ false → inside_of plain d.listed.start d.listed.count ≡ []
-      nothing q = ap (λ (x : Decided). inside_of plain x.listed.start x.listed.count) ((on-found true).quiet q) ∙ none_inside plain
-
-      go :
-          (l : List ℕ)
-          → inside_of plain d.listed.start d.listed.count ≡ l
-          → Settles lines number (inside_checked_by true d (d.listed.start + 2 * d.listed.count) l)
-      go [] e = on-found true
-      go (v ∷ l) e =
-          record {
-            is = (on-found true).is;
-            quiet = λ q. let z : length (v ∷ l) ≡ 0 = ap length (sym e ∙ nothing q) in absurd (omega arith);
-          }
+  on-checked :
+      (lenient : Bool) (d : Decision) → found_of lim plain n lenient ≡ d → Settles lines number (inside_checked plain lenient d)
+  on-checked lenient (Ok d) e = on-listed lenient d d.listed (ap listed_of e)
+  on-checked lenient (Err u) e = subst (Settles lines number) e (on-found lenient)
 
   pub decision-settles : (lenient : Bool) → Settles lines number (decision_of lim plain lenient)
   unfolding decision_of
   decision-settles lenient =
-      let inside : Decided = inside_checked plain lenient (found_of lim plain n lenient) in
-      let out : Decided = verdict_refused (verdict.LimitOutOfRange lim) in
-      pick-case (Settles lines number) (eqb (length plain) 4096) (pick (limit_fits lim) inside out) (verdict_refused (verdict.WrongLength (length plain)))
+      let inside : Decision = inside_checked plain lenient (found_of lim plain n lenient) in
+      let out : Decision = Err (unlisted.LimitOutOfRange lim) in
+      pick-case (Settles lines number) (eqb (length plain) 4096) (pick (limit_fits lim) inside out) (Err (unlisted.WrongLength (length plain)))
       (λ e.
-      pick-case (Settles lines number) (limit_fits lim) inside out (λ f. on-inside lenient)
-      (λ f. refused-is (verdict.LimitOutOfRange lim) (h.twenty f)))
-      (λ e. refused-is (verdict.WrongLength (length plain)) h.one)
-
--- a refusal has no directory
-refused-nothing : (number : ℕ) (plain : List ℕ) (v : Verdict) → NoDirectory (parsed_by number plain (verdict_refused v))
-unfolding each warned
-refused-nothing number plain v = record { none = refl; blank = refl; warnings = refl }
-
-pub no-directory : (number : ℕ) (plain : List ℕ) (d : Decided) → d ≡ verdict_refused d.verdict → NoDirectory (parsed_by number plain d)
-no-directory number plain d e = subst (λ (x : Decided). NoDirectory (parsed_by number plain x)) (sym e) (refused-nothing number plain d.verdict)
+      pick-case (Settles lines number) (limit_fits lim) inside out (λ f. on-checked lenient (found_of lim plain n lenient) refl)
+      (λ f. refused-is (unlisted.LimitOutOfRange lim) (h.twenty f)))
+      (λ e. refused-is (unlisted.WrongLength (length plain)) h.one)

@@ -6,19 +6,22 @@ use mathlib.Core.List.{List, [], ◌∷◌, ◌++◌, append-nil}
 use native.Mathlib.Omega.{arith}
 use lib.ListN.{length, take, drop, length-drop}
 use lib.Seq.{length-take-le}
+use Rattle.std.specs.Prelude.{Some, Result, Ok, Err}
 use Rattle.lists.specs.Cases.{pick}
 use Rattle.lists.proofs.Over.{over-here, over-after}
-use Rattle.lists.proofs.Picks.{pick-case}
+use Rattle.lists.proofs.Picks.{pick-case, never_both}
 use Rattle.numbers.specs.Numbers.{big_bytes}
-use Rattle.answers.specs.Answers.{number_of, is_accepted}
-use Rattle.answers.specs.declared.kinds.Answer.{Answer}
-use Rattle.answers.specs.declared.kinds.Answer.TheVariants.{MalformedLine}
+use Rattle.answers.specs.Answers.{Answer, number_of, is_accepted}
+use Rattle.answers.specs.declared.kinds.Refusal.TheVariants.{MalformedLine}
 use Rattle.summary.specs.Page.{fits_of, bytes_of}
 use Rattle.summary.proofs.Sectors.{summary-length}
+use Rattle.choice.specs.declared.Refused.{Refused}
+use Rattle.choice.specs.Rules.{refused_answer}
+use Rattle.verdict.specs.declared.Decoding.{Decoding}
 use Rattle.digits.specs.Digits.{spelled}
 use Rattle.frame.specs.Frames.{head_size, is_frame, anchor_count}
 use Rattle.frame.proofs.Frames.{frame-bytes}
-use Rattle.reply.specs.Report.{reply_most, report_bytes, accepted_bytes, line_of}
+use Rattle.reply.specs.Report.{reply_most, report_bytes, told_bytes, line_of}
 use Rattle.reply.specs.Reply.{frame_report, malformed, reply_of, replied_into, replied_number}
 use Rattle.reply.proofs.Replies.{reply-length, reply-short, reply-room}
 use Rattle.demands.specs.Told.{values_at, OneOf}
@@ -44,11 +47,11 @@ module _ (line : List ℕ) where
   answer-one : OneOf (frame_lines (limit_in line) (number_in line) (page_in line)) (answer_to line)
   unfolding answer_to values_at
   answer-one =
-      pick-case (OneOf (frame_lines (limit_in line) (number_in line) (page_in line))) (is_frame line) (decoding_in line).choice.answer MalformedLine
+      pick-case (OneOf (frame_lines (limit_in line) (number_in line) (page_in line))) (is_frame line) (refused_answer (decoding_in line)) (Some MalformedLine)
       (λ e. record { is = (frame-gives e).is }) (λ e. record { is = refl })
 
   abbrev given : Bool → Answer
-  given b = pick b (decoding_in line).choice.answer MalformedLine
+  given b = pick b (refused_answer (decoding_in line)) (Some MalformedLine)
 
   reply-is : reply_of line ≡ line_of (number_of (answer_to line) ∷ rest_of line)
   unfolding reply_of frame_report report_bytes decoding_in answer_to rest_of
@@ -57,13 +60,21 @@ module _ (line : List ℕ) where
       go :
           (b : Bool)
           → line_of (pick b (frame_report (spelled line) (anchor_count line)) malformed)
-          ≡ line_of (number_of (given b) ∷ pick b (big_bytes 8 (number_in line) ++ pick (is_accepted (given b)) (accepted_bytes (decoding_in line)) []) [])
+          ≡ line_of (number_of (given b) ∷ pick b (big_bytes 8 (number_in line) ++ told_bytes (decoding_in line)) [])
       go true = refl
       go false = refl
 
   rest-refused : is_accepted (answer_to line) ≡ false → rest_of line ≡ pick (is_frame line) (big_bytes 8 (number_in line)) []
-  unfolding rest_of
-  rest-refused e = rw (e, append-nil)
+  unfolding answer_to rest_of
+  rest-refused e = go (is_frame line) (decoding_in line) e
+    where
+      go :
+          (b : Bool) (r : Result Decoding Refused)
+          → is_accepted (pick b (refused_answer r) (Some MalformedLine)) ≡ false
+          → pick b (big_bytes 8 (number_in line) ++ told_bytes r) [] ≡ pick b (big_bytes 8 (number_in line)) []
+      go true (Ok d) q = absurd (never_both q refl)
+      go true (Err x) q = append-nil (big_bytes 8 (number_in line))
+      go false r q = refl
 
   reply-kept :
       (out : List ℕ)

@@ -3,6 +3,7 @@ use Prim.Native.Nat.{ℕ}
 use mathlib.Core.Path.{◌≡◌, sym, ap, ◌∙◌}
 use mathlib.Core.List.{List}
 use denote.Ref.{Bor}
+use Rattle.std.specs.Prelude.{Option}
 use Rattle.rows.specs.Rows.{IsPart}
 use Rattle.rows.specs.declared.spans.Span.{Span}
 use Rattle.demands.specs.SingleOutcome.{SamePart, SingleOutcome}
@@ -11,7 +12,7 @@ use Rattle.demands.specs.SingleOutcome.{SamePart, SingleOutcome}
 both : {A : Type 0} {x y z : A} → x ≡ z → y ≡ z → x ≡ y
 both p q = p ∙ sym q
 
-same-part : (s : Bor (List ℕ)) (a : Span) (p q : Bor (List ℕ)) → IsPart s p a → IsPart s q a → SamePart p q
+same-part : (s : Bor (List ℕ)) (a : Option Span) (p q : Bor (List ℕ)) → IsPart s p a → IsPart s q a → SamePart p q
 same-part s a p q g h = record { place = both g.place h.place; bytes = both g.bytes h.bytes }
 
 pub single-outcome : SingleOutcome

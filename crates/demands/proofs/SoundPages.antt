@@ -1,19 +1,17 @@
 -- A written page whose checks pass, read by its own scan: where the choice takes a bv without a warning, it is what is answered. Assumes nothing.
 use Prim.Native.Nat.{ℕ, zero, suc, ◌≤◌}
-use mathlib.Core.Path.{◌≡◌, refl, sym, ap, ◌∙◌}
+use mathlib.Core.Path.{◌≡◌, refl, ap, ◌∙◌}
 use mathlib.Core.Bool.{Bool, true, false, not}
 use mathlib.Core.List.{List}
 use native.Mathlib.Omega.{arith}
 use borrow.Author.Tests.{eq-eqb}
 use lib.ListN.{length}
+use Rattle.std.specs.Prelude.{Option, None, Result, Ok}
 use Rattle.lists.proofs.Least.{least-none}
-use Rattle.answers.specs.Answers.{is_accepted}
 use Rattle.answers.specs.Settings.{keystream, limit_fits}
-use Rattle.answers.specs.Warns.{no_warnings}
-use Rattle.answers.specs.declared.kinds.Answer.{Answer}
+use Rattle.answers.specs.Tables.{empty}
+use Rattle.answers.specs.Warns.{Warnings}
 use Rattle.answers.specs.declared.notices.WarningKind.{WarningKind}
-use Rattle.answers.specs.declared.notices.WarningKind.TheVariants as warning
-use Rattle.answers.specs.declared.notices.Warnings.{Warnings}
 use Rattle.answers.specs.declared.settings.Options.{Options}
 use Rattle.sector.specs.Fit.{confident_of}
 use Rattle.sector.specs.declared.fits.Fit.{Fit}
@@ -22,13 +20,14 @@ use Rattle.page.specs.Integrity.{integrity_of}
 use Rattle.summary.specs.Page.{fits_of, bytes_of}
 use Rattle.summary.proofs.Sectors.{summary-length}
 use Rattle.choice.specs.declared.Choice.{Choice}
+use Rattle.choice.specs.declared.Refused.{Refused}
 use Rattle.choice.specs.Rules.{choice_of}
-use Rattle.verdict.specs.Sectors.{entry, refit_of, first_weak, sector_warnings}
-use Rattle.verdict.specs.Verdict.{warning_noted, settled_of, integrity_refuses, integrity_warning, verdict_of}
-use Rattle.verdict.proofs.DecisionCases.{sectors-sure, settled-taken, settled-lenient, verdict-settled}
+use Rattle.verdict.specs.Sectors.{entry, first_weak, sector_warnings}
+use Rattle.verdict.specs.Verdict.{warning_noted, sectors_decide, settled_of, verdict_by, verdict_of}
 use Rattle.decode.specs.Decode.{entry_answer, entry_checked, decoding_of}
 use Rattle.demands.specs.Demand2.{read_page}
 use Rattle.demands.specs.Accepted.{GoodPage, Confident}
+use Rattle.demands.proofs.Refusals.{accepted-none}
 use Rattle.demands.proofs.StoredBytes.{refit-fresh}
 
 -- ---- confident sectors refuse nothing, and give no warning
@@ -45,61 +44,61 @@ module _ (number : ℕ) (fits : List Fit) (sure : Confident fits) where
 
   settled-sure :
       (lenient : Bool) (c : Choice) (ws : Warnings)
-      → is_accepted c.answer ≡ true
-      → settled_of number lenient fits c ws ≡ record { choice = c; fits = fits; warnings = warning_noted number c.warned ws }
-  settled-sure lenient c ws good = go lenient refl
-    where
-      go : (b : Bool) → lenient ≡ b → settled_of number lenient fits c ws ≡ record { choice = c; fits = fits; warnings = warning_noted number c.warned ws }
-      go true l =
-          settled-lenient number lenient fits c ws good l
-          ∙ ap (λ (w : Warnings). record { choice = c; fits = fits; warnings = w }) (none-warned (warning_noted number c.warned ws) 8 (omega arith))
-      go false l =
-          settled-taken number lenient fits c ws good
-          ∙ sectors-sure number lenient fits c (warning_noted number c.warned ws) l 8 (sym none-weak) (omega arith)
+      → settled_of number lenient fits (Ok c) ws ≡ Ok (record { choice = c; fits = fits; warnings = warning_noted number c.warned ws })
+  unfolding settled_of sectors_decide
+  settled-sure true c ws =
+      ap (λ (w : Warnings). Ok (record { choice = c; fits = fits; warnings = w })) (none-warned (warning_noted number c.warned ws) 8 (omega arith))
+  settled-sure false c ws = rw none-weak refl
 
 -- ---- the page
 
 module _ (number : ℕ) (stored anchors : List ℕ) (o : Options) (sound : GoodPage number stored) (within : limit_fits o.search_limit ≡ true) where
-  abbrev c : Choice
+  abbrev c : Result Choice Refused
   c = choice_of number (bytes_of number stored) anchors (row_count_of stored) o
 
-  entry-passes : is_accepted (entry_answer (length stored) 4096 (length (bytes_of number stored)) o.search_limit) ≡ true
+  entry-passes : entry_answer (length stored) 4096 (length (bytes_of number stored)) o.search_limit ≡ None
   unfolding entry_answer
   entry-passes =
       rw (eq-eqb (length stored) 4096 sound.whole, eq-eqb (length (bytes_of number stored)) 4080 (summary-length number stored sound.whole), within)
 
-  not-refused : (x : Answer) → is_accepted x ≡ true → integrity_refuses x o ≡ false
-  not-refused x e = rw e
-
-  not-warned : (x : Answer) → is_accepted x ≡ true → warning_noted number (integrity_warning x) no_warnings ≡ no_warnings
-  not-warned x e = rw e
-
-  pub page-settled : read_page number stored anchors o 4096 ≡ settled_of number (keystream o) (fits_of number stored) c no_warnings
-  unfolding decoding_of entry_checked verdict_of
+  pub page-settled : read_page number stored anchors o 4096 ≡ settled_of number (keystream o) (fits_of number stored) c empty
+  unfolding decoding_of entry_checked verdict_of verdict_by
   page-settled =
-      let x : Answer = integrity_of number stored in
-      rw (entry-passes, sound.written)
-      (verdict-settled number x (row_count_of stored) (fits_of number stored) (bytes_of number stored) anchors o (not-refused x sound.intact)
-      ∙ ap (λ (w : Warnings). settled_of number (keystream o) (refit_of (fits_of number stored) (bytes_of number stored)) c w) (not-warned x sound.intact)
-      ∙ ap (λ (f : List Fit). settled_of number (keystream o) f c no_warnings) (refit-fresh number stored sound.whole))
+      rw (entry-passes, sound.written, accepted-none (integrity_of number stored) sound.intact)
+      (ap (λ (f : List Fit). settled_of number (keystream o) f c empty) (refit-fresh number stored sound.whole))
 
-  module _ (good : is_accepted c.answer ≡ true) (quiet : c.warned ≡ warning.Nothing) where
-    noted-none : warning_noted number c.warned no_warnings ≡ no_warnings
-    noted-none = ap (λ (w : WarningKind). warning_noted number w no_warnings) quiet
+  module _ (x : Choice) (good : c ≡ Ok x) (quiet : x.warned ≡ None) where
+    settled-good : read_page number stored anchors o 4096 ≡ settled_of number (keystream o) (fits_of number stored) (Ok x) empty
+    settled-good = page-settled ∙ ap (λ (r : Result Choice Refused). settled_of number (keystream o) (fits_of number stored) r empty) good
+
+    noted-none : warning_noted number x.warned empty ≡ empty
+    noted-none = ap (λ (w : Option WarningKind). warning_noted number w empty) quiet
 
     pub page-sure :
         Confident (fits_of number stored)
-        → read_page number stored anchors o 4096 ≡ record { choice = c; fits = fits_of number stored; warnings = no_warnings }
+        → read_page number stored anchors o 4096 ≡ Ok (record { choice = x; fits = fits_of number stored; warnings = empty })
     page-sure sure =
-        page-settled
-        ∙ settled-sure number (fits_of number stored) sure (keystream o) c no_warnings good
-        ∙ ap (λ (w : Warnings). record { choice = c; fits = fits_of number stored; warnings = w }) noted-none
+        settled-good
+        ∙ settled-sure number (fits_of number stored) sure (keystream o) x empty
+        ∙ ap (λ (w : Warnings). Ok (record { choice = x; fits = fits_of number stored; warnings = w })) noted-none
+
+    settled-lenient :
+        (lenient : Bool)
+        → lenient ≡ true
+        → settled_of number lenient (fits_of number stored) (Ok x) empty
+        ≡ Ok (record {
+          choice = x;
+          fits = fits_of number stored;
+          warnings = sector_warnings number (fits_of number stored) (warning_noted number x.warned empty) 8;
+        })
+    unfolding settled_of sectors_decide
+    settled-lenient lenient l = rw l
 
     pub page-lenient :
         keystream o ≡ true
         → read_page number stored anchors o 4096
-        ≡ record { choice = c; fits = fits_of number stored; warnings = sector_warnings number (fits_of number stored) no_warnings 8 }
+        ≡ Ok (record { choice = x; fits = fits_of number stored; warnings = sector_warnings number (fits_of number stored) empty 8 })
     page-lenient l =
-        page-settled
-        ∙ settled-lenient number (keystream o) (fits_of number stored) c no_warnings good l
-        ∙ ap (λ (w : Warnings). record { choice = c; fits = fits_of number stored; warnings = sector_warnings number (fits_of number stored) w 8 }) noted-none
+        settled-good
+        ∙ settled-lenient (keystream o) l
+        ∙ ap (λ (w : Warnings). Ok (record { choice = x; fits = fits_of number stored; warnings = sector_warnings number (fits_of number stored) w 8 })) noted-none

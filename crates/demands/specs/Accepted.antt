@@ -1,11 +1,10 @@
 -- WHAT IS ACCEPTED: written pages that are sure to be read, with the bv, the source and the confidence that they get. Assumes nothing.
-use Rattle.std.specs.Prelude.{ℕ, ◌+◌, ◌-◌, ◌*◌, ◌%◌, ◌<◌, ◌≡◌, true, false, List, length}
+use Rattle.std.specs.Prelude.{ℕ, ◌+◌, ◌-◌, ◌*◌, ◌%◌, ◌<◌, ◌≡◌, true, false, Result, Ok, List, length}
 use Rattle.lists.specs.Bytes.{byte_at}
 use Rattle.answers.specs.Answers.{is_accepted}
 use Rattle.answers.specs.Settings.{keystream, limit_fits}
-use Rattle.answers.specs.Warns.{no_warnings}
-use Rattle.answers.specs.declared.kinds.Answer.TheVariants as answer
-use Rattle.answers.specs.declared.notices.Warnings.{Warnings}
+use Rattle.answers.specs.Tables.{empty}
+use Rattle.answers.specs.Warns.{Warnings}
 use Rattle.answers.specs.declared.settings.Options.{Options}
 use Rattle.answers.specs.declared.trust.Confidence.{Confidence}
 use Rattle.answers.specs.declared.trust.Confidence.TheVariants as confidence
@@ -17,6 +16,7 @@ use Rattle.sector.specs.declared.fits.Fit.{Fit}
 use Rattle.page.specs.Trailer.{row_count_of}
 use Rattle.page.specs.Integrity.{is_unallocated, integrity_of}
 use Rattle.summary.specs.Page.{sector_end, fits_of, bytes_of}
+use Rattle.choice.specs.declared.Refused.{Refused}
 use Rattle.meanings.specs.Sources.{SoleVerified}
 use Rattle.verdict.specs.declared.Decoding.{Decoding}
 use Rattle.verdict.specs.Sectors.{entry, sector_warnings}
@@ -32,13 +32,14 @@ pub record GoodPage (number : ℕ) (stored : List ℕ) : Type 0 where
 pub record Confident (fits : List Fit) : Type 0 where
   pub at : (s : ℕ) → s < 8 → confident_of (entry fits s) ≡ true
 
--- a decoding that accepts: with this bv, this source and this confidence, and these warnings
-pub record ReadAs (d : Decoding) (bv : ℕ) (s : Source) (k : Confidence) (ws : Warnings) : Type 0 where
-  pub answered : d.choice.answer ≡ answer.Accepted
-  pub value : d.choice.bv ≡ bv
-  pub from : d.choice.source ≡ s
-  pub trusted : d.choice.confidence ≡ k
-  pub warned : d.warnings ≡ ws
+-- a page that is accepted: with this bv, this source and this confidence, and these warnings
+pub record ReadAs (r : Result Decoding Refused) (bv : ℕ) (s : Source) (k : Confidence) (ws : Warnings) : Type 0 where
+  pub read : Decoding
+  pub answered : r ≡ Ok read
+  pub value : read.choice.bv ≡ bv
+  pub from : read.choice.source ≡ s
+  pub trusted : read.choice.confidence ≡ k
+  pub warned : read.warnings ≡ ws
 
 -- ---- eight exact sectors with one value
 
@@ -65,7 +66,7 @@ pub record Accepts : Type 0 where
       → limit_fits o.search_limit ≡ true
       → row_count_of stored ≡ 0
       → OneValue number stored bv
-      → ReadAs (read_page number stored anchors o 4096) bv source.ExactSectors confidence.Calibrated no_warnings
+      → ReadAs (read_page number stored anchors o 4096) bv source.ExactSectors confidence.Calibrated empty
   -- a verified candidate without a rival, where no other is verified and every sector is confident
   pub verified :
       (number : ℕ) (stored anchors : List ℕ) (o : Options) (bv : ℕ)
@@ -73,7 +74,7 @@ pub record Accepts : Type 0 where
       → limit_fits o.search_limit ≡ true
       → Confident (fits_of number stored)
       → SoleVerified o.search_limit (bytes_of number stored) anchors (row_count_of stored) o.min_trailer_count bv
-      → ReadAs (read_page number stored anchors o 4096) bv source.TrailerRowCount confidence.Verified no_warnings
+      → ReadAs (read_page number stored anchors o 4096) bv source.TrailerRowCount confidence.Verified empty
   -- the same under KEYSTREAM, with a warning for each sector that is not confident
   pub let_through :
       (number : ℕ) (stored anchors : List ℕ) (o : Options) (bv : ℕ)
@@ -82,4 +83,4 @@ pub record Accepts : Type 0 where
       → keystream o ≡ true
       → SoleVerified o.search_limit (bytes_of number stored) anchors (row_count_of stored) o.min_trailer_count bv
       → ReadAs (read_page number stored anchors o 4096) bv source.TrailerRowCount confidence.Verified
-      (sector_warnings number (fits_of number stored) no_warnings 8)
+      (sector_warnings number (fits_of number stored) empty 8)

@@ -1,10 +1,9 @@
 -- DEMAND 1 for the functions of include/lumeviqo.h: each tells one of the answers in its layout, or returns 0 and does nothing where the buffer for the
 -- answer is too short, or what is lent as fits is none. The answers are those of the entries, of which `Answered` has the lines. Assumes nothing.
-use Rattle.std.specs.Prelude.{ℕ, ◌≡◌, Bool, true, false, ◌&&◌, List, length, take, drop}
+use Rattle.std.specs.Prelude.{ℕ, ◌≡◌, Bool, true, false, ◌&&◌, Result, List, length, take, drop}
 use Rattle.lists.specs.Bytes.{byte_at}
-use Rattle.answers.specs.Answers.{number_of, is_accepted}
+use Rattle.answers.specs.Answers.{Answer, number_of, is_accepted, answer_in}
 use Rattle.answers.specs.Settings.{has_directory}
-use Rattle.answers.specs.declared.kinds.Answer.{Answer}
 use Rattle.page.specs.Trailer.{trailer_answer}
 use Rattle.page.specs.Integrity.{integrity_of}
 use Rattle.page.specs.Superblock.{superblock_answer, checked_superblock}
@@ -12,6 +11,8 @@ use Rattle.summary.specs.Page.{page_scan_of}
 use Rattle.summary.specs.Replace.{replace_answer}
 use Rattle.slotted.specs.Parses.{parsed_of}
 use Rattle.rows.specs.RowAnswers.{row_answer_of}
+use Rattle.choice.specs.declared.Refused.{Refused}
+use Rattle.choice.specs.Rules.{refused_answer}
 use Rattle.verdict.specs.declared.Decoding.{Decoding}
 use Rattle.numbers.specs.Writes.{Wrote}
 use Rattle.fields.specs.Fields.{layout_bytes}
@@ -39,7 +40,7 @@ pub record CallsAnswered : Type 0 where
   pub trailer :
       (stored answer answer_at_exit : List ℕ) (r : ℕ)
       → Wrote answer 0 (trailer_bytes (trailer_answer stored)) answer_at_exit r
-      → ToldInC true trailer_size (trailer_answer stored).answer answer answer_at_exit r
+      → ToldInC true trailer_size (answer_in (trailer_answer stored)) answer answer_at_exit r
   pub integrity :
       (number : ℕ) (stored answer answer_at_exit : List ℕ) (r : ℕ)
       → Wrote answer 0 (integrity_bytes (integrity_of number stored)) answer_at_exit r
@@ -47,15 +48,15 @@ pub record CallsAnswered : Type 0 where
   pub superblock :
       (stored answer answer_at_exit : List ℕ) (r : ℕ)
       → Wrote answer 0 (superblock_bytes (superblock_answer stored)) answer_at_exit r
-      → ToldInC true superblock_size (superblock_answer stored).answer answer answer_at_exit r
+      → ToldInC true superblock_size (answer_in (superblock_answer stored)) answer answer_at_exit r
   pub checked :
       (stored answer answer_at_exit : List ℕ) (r : ℕ)
       → Wrote answer 0 (superblock_bytes (checked_superblock stored)) answer_at_exit r
-      → ToldInC true superblock_size (checked_superblock stored).answer answer answer_at_exit r
+      → ToldInC true superblock_size (answer_in (checked_superblock stored)) answer answer_at_exit r
   pub scan :
       (number : ℕ) (stored shifted shifted_at_exit answer answer_at_exit : List ℕ) (r : ℕ)
       → ScanCall number stored shifted shifted_at_exit answer answer_at_exit r
-      → let x : Answer = (page_scan_of number stored (length shifted)).answer in
+      → let x : Answer = answer_in (page_scan_of number stored (length shifted)) in
       ToldInC true scan_size x answer answer_at_exit r × Keeps true scan_size x answer shifted shifted_at_exit
   pub replacement :
       (number s : ℕ) (new fits stored stored_at_exit shifted shifted_at_exit answer answer_at_exit : List ℕ) (r : ℕ)
@@ -66,18 +67,18 @@ pub record CallsAnswered : Type 0 where
       × Keeps (is_lent fits) scan_size x answer shifted shifted_at_exit
   -- all four, by the decoding that each asks for
   pub decoding :
-      (lent : Bool) (d : Decoding) (stored shifted out out_at_exit answer answer_at_exit : List ℕ) (r : ℕ)
+      (lent : Bool) (d : Result Decoding Refused) (stored shifted out out_at_exit answer answer_at_exit : List ℕ) (r : ℕ)
       → DecodingCall lent d stored shifted out out_at_exit answer answer_at_exit r
-      → ToldInC lent decoding_size d.choice.answer answer answer_at_exit r
-      × Keeps lent decoding_size d.choice.answer answer out out_at_exit
+      → ToldInC lent decoding_size (refused_answer d) answer answer_at_exit r
+      × Keeps lent decoding_size (refused_answer d) answer out out_at_exit
   pub parse :
       (number : ℕ) (plain : List ℕ) (leniency limit : ℕ) (answer answer_at_exit : List ℕ) (r : ℕ)
       → Wrote answer 0 (parse_told number plain leniency limit) answer_at_exit r
-      → ToldInC true parse_size (parsed_of limit number plain (has_directory leniency)).answer answer answer_at_exit r
+      → ToldInC true parse_size (answer_in (parsed_of limit number plain (has_directory leniency))) answer answer_at_exit r
   pub row_count :
       (number : ℕ) (plain : List ℕ) (leniency limit : ℕ) (answer answer_at_exit : List ℕ) (r : ℕ)
       → Wrote answer 0 (row_count_told number plain leniency limit) answer_at_exit r
-      → ToldInC true row_count_size (parsed_of limit number plain (has_directory leniency)).answer answer answer_at_exit r
+      → ToldInC true row_count_size (answer_in (parsed_of limit number plain (has_directory leniency))) answer answer_at_exit r
   pub row :
       (number : ℕ) (plain : List ℕ) (leniency limit k : ℕ) (answer answer_at_exit : List ℕ) (r : ℕ)
       → Wrote answer 0 (row_told number plain leniency limit k) answer_at_exit r
@@ -85,4 +86,4 @@ pub record CallsAnswered : Type 0 where
   pub rows :
       (number : ℕ) (plain : List ℕ) (leniency limit : ℕ) (answer answer_at_exit : List ℕ) (r : ℕ)
       → Wrote answer 0 (rows_told number plain leniency limit) answer_at_exit r
-      → ToldInC true rows_size (parsed_of limit number plain (has_directory leniency)).answer answer answer_at_exit r
+      → ToldInC true rows_size (answer_in (parsed_of limit number plain (has_directory leniency))) answer answer_at_exit r

@@ -1,16 +1,15 @@
 -- DEMAND 2: of an accepted page that is not all zero and read by its own scan, every stored data byte is the byte written, with the sector's
 -- offset, the place in the sector times the sector's step, and bv, modulo 256; each step is the smallest with the largest modal count; the
 -- trailer is copied; peaks, runner-ups, ties and the zero mass are those of the page. Assumes nothing.
-use Rattle.std.specs.Prelude.{ℕ, ◌+◌, ◌-◌, ◌*◌, ◌%◌, ◌≤◌, ◌<◌, ◌≡◌, true, false, List, eqb, length, get_or, take, drop}
+use Rattle.std.specs.Prelude.{ℕ, ◌+◌, ◌-◌, ◌*◌, ◌%◌, ◌≤◌, ◌<◌, ◌≡◌, true, false, Option, Some, None, Result, Ok, List, eqb, length, get_or, take, drop}
 use Rattle.lists.specs.Bytes.{byte_at, AllBytes}
 use Rattle.lists.specs.Counts.{count, how_many, all_same}
 use Rattle.lists.specs.Pieces.{each}
-use Rattle.answers.specs.Answers.{is_accepted}
+use Rattle.answers.specs.Trust.{Grounds}
 use Rattle.answers.specs.declared.settings.Options.{Options}
 use Rattle.answers.specs.declared.trust.Evidence.{Evidence}
 use Rattle.answers.specs.declared.trust.Evidence.TheVariants as evidence
 use Rattle.answers.specs.declared.trust.Source.TheVariants as source
-use Rattle.answers.specs.declared.trust.Grounds.{Grounds}
 use Rattle.sector.specs.Byte.{offset_of}
 use Rattle.sector.specs.Fit.{shifted_list, modal_at}
 use Rattle.sector.specs.Sorted.{sorted_down}
@@ -23,6 +22,7 @@ use Rattle.votes.specs.Votes.{assessment_of}
 use Rattle.votes.specs.declared.Assessment.{Assessment}
 use Rattle.groups.specs.declared.Group.TheVariants.{Others}
 use Rattle.groups.specs.Groups.{group, most_of}
+use Rattle.choice.specs.declared.Refused.{Refused}
 use Rattle.choice.specs.Rules.{choice_of}
 use Rattle.choice.specs.Supplied.{supplied_of}
 use Rattle.verdict.specs.declared.Decoding.{Decoding}
@@ -30,14 +30,14 @@ use Rattle.verdict.specs.Sectors.{entry}
 use Rattle.decode.specs.Decode.{decoding_of, supplied_decoding_of, written_of}
 
 -- a page read by its own scan: what `decode_page` and `decode_with_bv` answer, and what they leave in out
-abbrev pub read_page : ℕ → List ℕ → List ℕ → Options → ℕ → Decoding
+abbrev pub read_page : ℕ → List ℕ → List ℕ → Options → ℕ → Result Decoding Refused
 read_page number stored anchors o m = decoding_of number stored (fits_of number stored) (bytes_of number stored) anchors o m
 
-abbrev pub read_with : ℕ → ℕ → List ℕ → Options → ℕ → Decoding
+abbrev pub read_with : ℕ → ℕ → List ℕ → Options → ℕ → Result Decoding Refused
 read_with number bv stored o m = supplied_decoding_of number bv stored (fits_of number stored) (bytes_of number stored) o m
 
-abbrev pub left_in : List ℕ → ℕ → List ℕ → Decoding → List ℕ
-left_in out number stored d = written_of d stored (bytes_of number stored) out
+abbrev pub left_in : List ℕ → ℕ → List ℕ → Result Decoding Refused → List ℕ
+left_in out number stored r = written_of r stored (bytes_of number stored) out
 
 -- the fit of sector bytes l at an offset: its step is the smallest of those with the largest modal count, its peak is that count, its
 -- runner-up the second of the 256 counts, sorted; it is exact where the shifted bytes are all equal; tied is "the number of steps that reach the peak,
@@ -68,14 +68,14 @@ pub record Recovered (number : ℕ) (stored : List ℕ) (d : Decoding) (written 
   pub best : (s : ℕ) → s < 8 → BestFit (offset_of number s) (part s stored) (entry d.fits s)
 
 -- the last piece of evidence of a table
-abbrev pub last_of : Grounds → Evidence
-last_of g = (get_or g.items (g.len - 1) (record { evidence = evidence.Nothing })).evidence
+abbrev pub last_of : Grounds → Option Evidence
+last_of g = get_or g.items (g.len - 1) None
 
 -- the choice is the rules', for the page's own shifted bytes, so that it means what `meanings` says of it; a page whose bv comes from its row count passes
 -- the row-count test as it was written; the last evidence is the number of data bytes written that are zero, with its lead over the best of the other
 -- candidates
 pub record Evident (number : ℕ) (stored anchors : List ℕ) (o : Options) (d : Decoding) (written : List ℕ) : Type 0 where
-  pub choice : d.choice ≡ choice_of number (bytes_of number stored) anchors (row_count_of stored) o
+  pub choice : choice_of number (bytes_of number stored) anchors (row_count_of stored) o ≡ Ok d.choice
   pub byte : d.choice.bv < 256
   pub passes :
       d.choice.source ≡ source.TrailerRowCount
@@ -83,20 +83,21 @@ pub record Evident (number : ℕ) (stored anchors : List ℕ) (o : Options) (d :
   pub mass :
       let zeros : ℕ = count 0 (take 4080 written) in
       let a : Assessment = assessment_of o.search_limit (bytes_of number stored) anchors (row_count_of stored) o.min_trailer_count in
-      last_of d.choice.grounds ≡ evidence.ZeroMass zeros (zeros - most_of (group (Others d.choice.bv) a))
+      last_of d.choice.grounds ≡ Some (evidence.ZeroMass zeros (zeros - most_of (group (Others d.choice.bv) a)))
 
 pub record Recovers : Type 0 where
   pub read :
       (number : ℕ) (stored anchors : List ℕ) (o : Options) (out : List ℕ)
       → AllBytes stored
       → is_unallocated stored ≡ false
-      → let d : Decoding = read_page number stored anchors o (length out) in
-      is_accepted d.choice.answer ≡ true
-      → Recovered number stored d (left_in out number stored d) × Evident number stored anchors o d (left_in out number stored d)
+      → (d : Decoding)
+      → read_page number stored anchors o (length out) ≡ Ok d
+      → Recovered number stored d (left_in out number stored (Ok d)) × Evident number stored anchors o d (left_in out number stored (Ok d))
   pub supplied :
       (number bv : ℕ) (stored : List ℕ) (o : Options) (out : List ℕ)
       → AllBytes stored
       → is_unallocated stored ≡ false
-      → let d : Decoding = read_with number bv stored o (length out) in
-      is_accepted d.choice.answer ≡ true
-      → Recovered number stored d (left_in out number stored d) × (d.choice ≡ supplied_of number bv (bytes_of number stored) (row_count_of stored) o)
+      → (d : Decoding)
+      → read_with number bv stored o (length out) ≡ Ok d
+      → Recovered number stored d (left_in out number stored (Ok d))
+      × (supplied_of number bv (bytes_of number stored) (row_count_of stored) o ≡ Ok d.choice)

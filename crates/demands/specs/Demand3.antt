@@ -2,11 +2,12 @@
 -- same anchors and options, are those of the final page read afresh; on an alien summary a replacement changes nothing of the other seven
 -- sectors; and all eight sectors of another page make page and summary that page's. The contracts of `decode_summary` and `decode_page` are
 -- the two sides of the first. Assumes nothing.
-use Rattle.std.specs.Prelude.{ℕ, ◌*◌, ◌≡◌, List, [], ◌∷◌, length}
+use Rattle.std.specs.Prelude.{ℕ, ◌*◌, ◌≡◌, Result, List, [], ◌∷◌, length}
 use Rattle.lists.specs.Pieces.{over}
 use Rattle.answers.specs.declared.settings.Options.{Options}
 use Rattle.summary.specs.Replace.{if_replaced}
 use Rattle.summary.specs.State.{State, Replacement, Whole, AllEight, Taken, OneSector, at_scan, after, after_all, sectors_from}
+use Rattle.choice.specs.declared.Refused.{Refused}
 use Rattle.verdict.specs.declared.Decoding.{Decoding}
 use Rattle.decode.specs.Decode.{decoding_of, supplied_decoding_of, written_of}
 use Rattle.demands.specs.Demand2.{read_page, read_with, left_in}
@@ -34,7 +35,7 @@ pub record ReadAfresh (number : ℕ) (t : State) (stored : List ℕ) : Type 0 wh
   pub supplied :
       (bv : ℕ) (o : Options) (m : ℕ)
       → supplied_decoding_of number bv t.stored t.fits t.shifted o m ≡ read_with number bv stored o m
-  pub written : (d : Decoding) (out : List ℕ) → written_of d t.stored t.shifted out ≡ left_in out number stored d
+  pub written : (r : Result Decoding Refused) (out : List ℕ) → written_of r t.stored t.shifted out ≡ left_in out number stored r
 
 pub record KeptFresh : Type 0 where
   -- after a scan and any replacements under one page number

@@ -1,20 +1,18 @@
 -- What an answer tells: the table of answers, for each entry the lines that it can give. Assumes nothing.
-use Rattle.std.specs.Prelude.{ℕ, ◌+◌, ◌*◌, ◌≡◌, Bool, false, ◌&&◌, List, [], ◌∷◌, ◌++◌, eqb, ltb, length}
+use Rattle.std.specs.Prelude.{ℕ, ◌+◌, ◌*◌, ◌≡◌, Bool, false, ◌&&◌, Option, Some, None, List, [], ◌∷◌, ◌++◌, eqb, ltb, length}
 use Rattle.lists.specs.Cases.{pick}
-use Rattle.answers.specs.Answers.{number_of, values_of}
-use Rattle.answers.specs.declared.kinds.Answer.{Answer}
+use Rattle.answers.specs.Answers.{Answer, number_of, values_of}
 use Rattle.sector.specs.declared.fits.Fit.{Fit}
 use Rattle.page.specs.Trailer.{row_count_of, stored_crc}
 use Rattle.page.specs.Integrity.{computed_crc}
 use Rattle.page.specs.Superblock.{magic_of}
 use Rattle.slots.specs.Slots.{scanned_directory}
-use Rattle.slots.specs.declared.scans.Found.{Found}
-use Rattle.slots.specs.declared.scans.Found.TheVariants as scan
+use Rattle.slots.specs.declared.scans.Scan.{Scan}
 use Rattle.preludes.specs.Preludes.{prelude_of}
 use Rattle.preludes.specs.declared.search.Prelude.{Prelude}
 use Rattle.preludes.specs.declared.search.Prelude.TheVariants as prelude
 use Rattle.directory.specs.Directory.{inside_of}
-use Rattle.directory.specs.Decisions.{found_of}
+use Rattle.directory.specs.Decisions.{listed_of, found_of}
 use Rattle.directory.specs.declared.verdicts.Listed.{Listed}
 use Rattle.rows.specs.Rows.{head_or}
 use Rattle.votes.specs.Votes.{counts_of, top_of}
@@ -61,9 +59,9 @@ or_limit lim within = 20 returns (lim ∷ []) ∷ within
 -- ---- slots and rows of a plain page
 
 -- "8: reason: 1 n from 1 to 3; 2 fewer than 8 live; 3 unconfirmed"
-abbrev pub live_in : Found → ℕ
-live_in (scan.Directory d) = d.live
-live_in scan.Nothing = 0
+abbrev pub live_in : Option Scan → ℕ
+live_in (Some d) = d.live
+live_in None = 0
 
 abbrev pub is_few : ℕ → Bool
 is_few n = ltb 0 n && ltb n 4
@@ -88,14 +86,22 @@ abbrev pub prelude_at : ℕ → List ℕ → Prelude
 prelude_at lim plain = prelude_of lim plain (row_count_of plain)
 
 -- "12: offset, directory end": the first in slot order that lies inside the directory
-abbrev pub listed_at : ℕ → List ℕ → Listed
-listed_at lim plain = (found_of lim plain (row_count_of plain) false).listed
+abbrev pub listed_at : ℕ → List ℕ → Option Listed
+listed_at lim plain = listed_of (found_of lim plain (row_count_of plain) false)
+
+abbrev pub offset_in : List ℕ → Option Listed → ℕ
+offset_in plain (Some l) = head_or 0 (inside_of plain l.start l.count)
+offset_in plain None = 0
+
+abbrev pub end_in : Option Listed → ℕ
+end_in (Some l) = l.start + 2 * l.count
+end_in None = 0
 
 unfoldable pub offset_at : ℕ → List ℕ → ℕ
-offset_at lim plain = head_or 0 (inside_of plain (listed_at lim plain).start (listed_at lim plain).count)
+offset_at lim plain = offset_in plain (listed_at lim plain)
 
 unfoldable pub end_at : ℕ → List ℕ → ℕ
-end_at lim plain = (listed_at lim plain).start + 2 * (listed_at lim plain).count
+end_at lim plain = end_in (listed_at lim plain)
 
 abbrev pub parse_within : ℕ → ℕ → List ℕ → List Line
 parse_within lim number plain =

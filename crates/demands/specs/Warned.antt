@@ -1,12 +1,11 @@
 -- THE WARNINGS OF AN ACCEPTED PAGE: "Warnings: integrity, choice, sectors ascending", from its own scan or from any summary, and none is lost. A bv that is let
 -- through is marked with a warning (meanings/Sources), which so stands in the answer. Assumes nothing.
-use Rattle.std.specs.Prelude.{ℕ, ◌+◌, ◌≤◌, ◌≡◌, Bool, true, false, not, List, eqb}
+use Rattle.std.specs.Prelude.{ℕ, ◌+◌, ◌≤◌, ◌≡◌, Bool, true, false, not, is_some, Ok, List}
 use Rattle.lists.specs.Cases.{pick, flag}
 use Rattle.lists.specs.Counts.{how_many}
-use Rattle.answers.specs.Answers.{is_accepted}
 use Rattle.answers.specs.Settings.{keystream}
-use Rattle.answers.specs.Warns.{no_warnings, warning_number}
-use Rattle.answers.specs.declared.notices.Warnings.{Warnings}
+use Rattle.answers.specs.Tables.{empty}
+use Rattle.answers.specs.Warns.{Warnings}
 use Rattle.answers.specs.declared.settings.Options.{Options}
 use Rattle.sector.specs.Fit.{confident_of}
 use Rattle.sector.specs.declared.fits.Fit.{Fit}
@@ -24,7 +23,7 @@ warnings_after number lenient fits c ws =
 
 -- whether a choice warns; the sectors in doubt among the first n
 abbrev pub warns : Choice → Bool
-warns c = not (eqb (warning_number c.warned) 0)
+warns c = is_some c.warned
 
 abbrev pub in_doubt : List Fit → ℕ → ℕ
 in_doubt fits n = how_many (λ s. not (confident_of (entry fits s))) n
@@ -33,17 +32,16 @@ pub record Warned : Type 0 where
   pub decoding :
       (number : ℕ) (stored : List ℕ) (fits : List Fit) (shifted anchors : List ℕ) (o : Options) (m : ℕ)
       → is_unallocated stored ≡ false
-      → let d : Decoding = decoding_of number stored fits shifted anchors o m in
-      is_accepted d.choice.answer ≡ true
-      → d.warnings
-      ≡ warnings_after number (keystream o) d.fits d.choice (warning_noted number (integrity_warning (integrity_of number stored)) no_warnings)
+      → (d : Decoding)
+      → decoding_of number stored fits shifted anchors o m ≡ Ok d
+      → d.warnings ≡ warnings_after number (keystream o) d.fits d.choice (warning_noted number (integrity_warning (integrity_of number stored)) empty)
   -- a supplied bv: no integrity warning
   pub supplied :
       (number bv : ℕ) (stored : List ℕ) (fits : List Fit) (shifted : List ℕ) (o : Options) (m : ℕ)
       → is_unallocated stored ≡ false
-      → let d : Decoding = supplied_decoding_of number bv stored fits shifted o m in
-      is_accepted d.choice.answer ≡ true
-      → d.warnings ≡ warnings_after number (keystream o) d.fits d.choice no_warnings
+      → (d : Decoding)
+      → supplied_decoding_of number bv stored fits shifted o m ≡ Ok d
+      → d.warnings ≡ warnings_after number (keystream o) d.fits d.choice empty
   -- under KEYSTREAM, behind one warning at most, every one has its place in the table
   pub placed :
       (number : ℕ) (fits : List Fit) (c : Choice) (ws : Warnings)

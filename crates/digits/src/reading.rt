@@ -1,5 +1,5 @@
 // The values of digits, and the bytes that they spell.
-ghost use Rattle.std.specs.Prelude.{◌≡◌, ◌+◌, ◌*◌, ◌/◌, ◌%◌, ◌≤◌, min, max, length};
+ghost use Rattle.std.specs.Prelude.{◌≡◌, ◌+◌, ◌*◌, ◌/◌, ◌%◌, ◌≤◌, length};
 ghost use Rattle.lists.specs.Pieces.{each, over};
 ghost use Rattle.digits.specs.Digits.{digit_of, worst_of, worst_in, digit_values, values_into, value_pair, paired_into};
 
@@ -8,12 +8,9 @@ ghost use Rattle.digits.specs.Digits.{digit_of, worst_of, worst_in, digit_values
 pub fn digit_value(c: u8) -> u8
     ensures { result ≡ digit_of c }
 {
-    let decimal = std::num::wrapping_sub_u8(c, b':');
-    let letter = std::num::wrapping_sub_u8(lower_case(c), b'a');
-    lesser(
-        std::num::wrapping_add_u8(greater(decimal, 6), 10),
-        lesser(letter, 6) + 10,
-    )
+    let decimal = c.wrapping_sub(b':');
+    let letter = lower_case(c).wrapping_sub(b'a');
+    decimal.max(6).wrapping_add(10).min(letter.min(6) + 10)
 }
 
 // The bit of 32 set, which makes a capital its small letter.
@@ -21,18 +18,6 @@ fn lower_case(c: u8) -> u8
     ensures { result ≡ c / 64 * 64 + 32 + c % 32 }
 {
     c / 64 * 64 + 32 + c % 32
-}
-
-fn lesser(a: u8, b: u8) -> u8
-    ensures { result ≡ min a b }
-{
-    if a < b { a } else { b }
-}
-
-fn greater(a: u8, b: u8) -> u8
-    ensures { result ≡ max a b }
-{
-    if a < b { b } else { a }
 }
 
 // The values of a line's characters, into the front of `values`. The greatest tells whether all are digits. Where they do not fit, nothing and 16.
@@ -51,15 +36,11 @@ fn put_values(line: &[u8], values: &mut [u8]) -> u8
     ensures value { result ≡ worst_of line.now }
     ensures values_after { values.new ≡ over values.old 0 (digit_values line.now) }
 {
-    let mut worst: u8 = 0;
-    let mut i: usize = 0;
-    while i < line.len() {
-        let value = digit_value(line[i]);
+    let mut worst = 0u8;
+    for (i, c) in line.iter().enumerate() {
+        let value = digit_value(*c);
         values[i] = value;
-        if worst < value {
-            worst = value;
-        }
-        i += 1;
+        worst = worst.max(value);
     }
     worst
 }
@@ -68,20 +49,18 @@ fn put_values(line: &[u8], values: &mut [u8]) -> u8
 pub fn pair_up(values: &[u8], bytes: &mut [u8])
     ensures { bytes.new ≡ paired_into values.now bytes.old }
 {
-    if bytes.len() < values.len() / 2 {
-        return;
+    let n = values.len() / 2;
+    if n <= bytes.len() {
+        put_pairs(values, n, bytes);
     }
-    put_pairs(values, values.len() / 2, bytes);
 }
 
 fn put_pairs(values: &[u8], n: usize, bytes: &mut [u8])
     requires { (n ≡ length values.now / 2) × (n ≤ length bytes.old) }
     ensures { bytes.new ≡ over bytes.old 0 (each (value_pair values.now) n) }
 {
-    let mut i: usize = 0;
-    while i < n {
+    for i in 0..n {
         bytes[i] = digit_pair(values[i + i], values[i + i + 1]);
-        i += 1;
     }
 }
 
@@ -89,6 +68,6 @@ fn put_pairs(values: &[u8], n: usize, bytes: &mut [u8])
 pub fn digit_pair(a: u8, b: u8) -> u8
     ensures { result ≡ (a * 16 + b) % 256 }
 {
-    let both = (a as u32) + (b as u32) * 256;
+    let both = u32::from(u16::from_le_bytes([a, b]));
     (both * 4097 / 256 % 256) as u8
 }

@@ -20,12 +20,9 @@ fn put_digits(bytes: &[u8], out: &mut [u8])
     requires { length bytes.now + length bytes.now ≤ length out.old }
     ensures { out.new ≡ over out.old 0 (hexed bytes.now) }
 {
-    let mut i: usize = 0;
-    while i < bytes.len() {
-        let b = bytes[i];
-        out[i + i] = lower_digit(b / 16);
-        out[i + i + 1] = lower_digit(b % 16);
-        i += 1;
+    for (i, b) in bytes.iter().enumerate() {
+        out[i + i] = lower_digit(*b / 16);
+        out[i + i + 1] = lower_digit(*b % 16);
     }
 }
 
@@ -34,7 +31,8 @@ fn lower_digit(value: u8) -> u8
     ensures { result ≡ lower_digit value }
 {
     if value < 10 {
-        return b'0' + value;
+        b'0' + value
+    } else {
+        b'a' - 10 + value
     }
-    b'a' - 10 + value
 }

@@ -15,7 +15,7 @@ use Rattle.lists.proofs.Booleans.{and_left, and_right}
 use Rattle.lists.proofs.Each.{each-length, each-ext}
 use Rattle.slots.specs.Slots.{is_offset, words_from, falling, opening, slots_at, onto_trimmed, trim, live_of, array_start_of, scan_from, scanned_directory}
 use Rattle.slots.specs.declared.scans.Scan.{Scan}
-use Rattle.slots.specs.declared.scans.Found.TheVariants as scan
+use Rattle.std.proofs.Common.{Some}
 use Rattle.slots.proofs.Words.{words_step, words-end, offset-low, offset-high, slots-few}
 use Rattle.slots.proofs.Limits.{scanned-past}
 use Rattle.slots.proofs.Best.{scanned-best}
@@ -187,10 +187,10 @@ scan-sound lim plain s d le e h =
     subst (λ (x : Scan). Sound plain x.start x.slots) (sym e) (trimmed-sound lim plain (array_start_of lim plain s) le pos)
 
 -- the scan's directory
-pub scanned-sound : (lim : ℕ) (plain : List ℕ) (d : Scan) → scanned_directory lim plain ≡ scan.Directory d → Sound plain d.start d.slots
+pub scanned-sound : (lim : ℕ) (plain : List ℕ) (d : Scan) → scanned_directory lim plain ≡ Some d → Sound plain d.start d.slots
 scanned-sound lim plain d q = go (leb (length plain) lim) refl
   where
-    at : (m : ℕ) → m ≤ length plain → scanned_directory m plain ≡ scan.Directory d → Sound plain d.start d.slots
+    at : (m : ℕ) → m ≤ length plain → scanned_directory m plain ≡ Some d → Sound plain d.start d.slots
     at m le e = let b = scanned-best m plain d e in scan-sound m plain b.0.from d le b.0.is-scan b.1
 
     go : (b : Bool) → leb (length plain) lim ≡ b → Sound plain d.start d.slots
@@ -205,7 +205,7 @@ scan-few lim plain s d e =
     let v : d.slots ≡ length (trim l) = ap (λ (x : Scan). x.slots) e in
     omega (arith, trim-few l, slots-few lim plain (array_start_of lim plain s))
 
-pub scanned-few : (lim : ℕ) (plain : List ℕ) (d : Scan) → scanned_directory lim plain ≡ scan.Directory d → 2 * d.slots ≤ lim
+pub scanned-few : (lim : ℕ) (plain : List ℕ) (d : Scan) → scanned_directory lim plain ≡ Some d → 2 * d.slots ≤ lim
 scanned-few lim plain d q = let b = scanned-best lim plain d q in scan-few lim plain b.0.from d b.0.is-scan
 
 -- the one prelude

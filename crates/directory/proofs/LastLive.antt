@@ -1,17 +1,23 @@
 -- Laws of the last live slot: offsets fall, so it is the least, and where it lies past the end of the directory all do. Assumes nothing.
-use Prim.Native.Nat.{ℕ, zero, suc, ◌+◌, ◌-◌, ◌*◌, ◌≤◌, ◌<◌}
+use Prim.Native.Nat.{ℕ, zero, suc, ◌+◌, ◌*◌, ◌≤◌, ◌<◌}
+use Rattle.std.proofs.Common.{Some, Ok, not, cond, Option, map, option_map, reverse, unwrap_or, ◌==◌, length}
+use Rattle.std.specs.List.{find}
+use Rattle.std.proofs.lemmas.List.{reverse-append}
 use mathlib.Core.Path.{◌≡◌, refl, sym, ap, ◌∙◌}
-use mathlib.Core.List.{List, [], ◌∷◌, ◌++◌}
+use mathlib.Core.List.{List, [], ◌∷◌, ◌++◌, reverse_aux}
 use mathlib.Core.Bool.{Bool, true, false, and-false}
 use native.Mathlib.Omega.{arith}
 use lib.Dec.{eqb}
-use borrow.Author.Tests.{eq-eqb, ne_eqb, eqb-true, eqb-false, lt-ltb, le-ltb}
+use borrow.Author.Tests.{eqb-true, eqb-false, lt-ltb, le-ltb}
 use Rattle.lists.specs.Cases.{pick}
-use Rattle.lists.specs.Bytes.{pair_at}
+use Rattle.lists.specs.Bytes.{byte_at}
 use Rattle.lists.specs.Pieces.{each, keep}
-use Rattle.lists.proofs.Each.{each_more}
+use Rattle.lists.proofs.Each.{each_all}
 use Rattle.directory.specs.Directory.{slots_of, is_inside, inside_of, last_live, Falls, Sound}
-use Rattle.directory.specs.Decisions.{inside_checked_by, inside_checked}
+use Rattle.directory.specs.Decisions.{inside_checked_by, listed_checked, inside_checked}
+use Rattle.slots.specs.Slots.{slot_value}
+use Rattle.directory.proofs.Inside.{find-mapped}
+use Rattle.directory.specs.declared.verdicts.Listed.{Listed}
 use Rattle.directory.specs.declared.verdicts.Decided.{Decided}
 
 last-zero : (l : List ℕ) (b : Bool) → eqb (last_live l) 0 ≡ b → pick b 0 (last_live l) ≡ last_live l
@@ -32,30 +38,26 @@ last-append (x ∷ l) v = ap (λ (n : ℕ). pick (eqb n 0) x n) (last-append l v
     go true e = refl
     go false e = rw e refl
 
--- what holds while the last live slot is looked for, with k slots to go
-module _ (plain : List ℕ) (start count : ℕ) where
-  abbrev last_of : ℕ → ℕ
-  last_of k = last_live (slots_of plain start k)
+-- so it is the first from the far end
+first-end : (f : ℕ → ℕ) (n : ℕ) → unwrap_or (find (λ v. not (v == 0)) (reverse (each f n))) 0 ≡ last_live (each f n)
+unfolding each
+first-end f zero = unfold last_live in refl
+first-end f (suc n) = rw (reverse-append (each f n) (f n ∷ []), last-append (each f n) (f n)) (go (eqb (f n) 0) (first-end f n))
+  where
+    go : (b : Bool) → unwrap_or (find (λ v. not (v == 0)) (reverse (each f n))) 0 ≡ last_live (each f n) → unwrap_or (cond (not b) (Some (f n)) (find (λ v. not (v == 0)) (reverse (each f n)))) 0 ≡ pick b (last_live (each f n)) (f n)
+    go true e = e
+    go false e = refl
 
-  last_one : (k : ℕ) → last_of (k + 1) ≡ pick (eqb (pair_at plain (start + 2 * k)) 0) (last_of k) (pair_at plain (start + 2 * k))
-  last_one k = ap last_live (each_more (λ j. pair_at plain (start + 2 * j)) k) ∙ last-append (slots_of plain start k) (pair_at plain (start + 2 * k))
+map-onto : (l acc : List (List ℕ)) → map slot_value (reverse_aux l acc) ≡ reverse_aux (map slot_value l) (map slot_value acc)
+map-onto [] acc = refl
+map-onto (x ∷ l) acc = map-onto l (x ∷ acc)
 
-  module _ (k v : ℕ) (h : 0 < k) (e : v ≡ pair_at plain (start + 2 * (k - 1))) (so_far : last_of count ≡ last_of k) where
-    stepped : last_of count ≡ pick (eqb v 0) (last_of (k - 1)) v
-    stepped =
-        let z : k ≡ k - 1 + 1 = omega arith in
-        so_far ∙ ap last_of z ∙ last_one (k - 1) ∙ ap (λ (w : ℕ). pick (eqb w 0) (last_of (k - 1)) w) (sym e)
-
-    pub last_found : (v ≡ 0 → ⊥) → v ≡ last_of count
-    last_found n = sym (stepped ∙ rw (ne_eqb v 0 n) refl)
-
-    pub last-deleted : v ≡ 0 → last_of count ≡ last_of (k - 1)
-    last-deleted z = stepped ∙ rw (eq-eqb v 0 z) refl
-
-  pub last_none : (k : ℕ) → k ≤ 0 → last_of count ≡ last_of k → 0 ≡ last_of count
-  last_none k h so_far =
-      let z : k ≡ 0 = omega arith in
-      sym (so_far ∙ ap last_of z ∙ unfold last_live each in refl)
+pub last-first : (l : List (List ℕ)) → unwrap_or (option_map slot_value (find (λ s. not (slot_value s == 0)) (reverse l))) 0 ≡ last_live (map slot_value l)
+last-first l =
+    let m : List ℕ = map slot_value l in
+    let e : m ≡ each (byte_at m) (length m) = each_all (byte_at m) (length m) m refl (λ k h. refl) in
+    ap (λ (x : Option ℕ). unwrap_or x 0) (find-mapped (λ v. not (v == 0)) (reverse l))
+    ∙ ap (λ (x : List ℕ). unwrap_or (find (λ v. not (v == 0)) x) 0) (map-onto l [] ∙ ap reverse e) ∙ first-end (byte_at m) (length m) ∙ ap last_live (sym e)
 
 -- the last of falling slots is the least
 last-below : (prev : ℕ) (l : List ℕ) → 0 < prev → Falls prev l → last_live l < prev
@@ -110,14 +112,15 @@ none_inside start stop prev (suc x ∷ l) p d h =
     go false q k below rest = rw (outside start stop (suc x) (λ n. omega arith)) (rest k)
 
 pub last-past :
-    (plain : List ℕ) (lenient : Bool) (d : Decided) (last : ℕ)
-    → Sound plain d.listed.start d.listed.count
-    → last ≡ last_live (slots_of plain d.listed.start d.listed.count)
-    → d.listed.start + 2 * d.listed.count ≤ last
-    → d ≡ inside_checked plain lenient d
+    (plain : List ℕ) (lenient : Bool) (d : Decided) (l : Listed) (last : ℕ)
+    → d.listed ≡ Some l
+    → Sound plain l.start l.count
+    → last ≡ last_live (slots_of plain l.start l.count)
+    → l.start + 2 * l.count ≤ last
+    → Ok d ≡ inside_checked plain lenient (Ok d)
 unfolding inside_of
-last-past plain lenient d last s e h =
-    let end : ℕ = d.listed.start + 2 * d.listed.count in
-    let none : keep (is_inside d.listed.start end) (slots_of plain d.listed.start d.listed.count) ≡ [] =
-    none_inside d.listed.start end 0xFF0 (slots_of plain d.listed.start d.listed.count) (omega arith) s.falls (omega (arith, e)) in
-    sym (ap (inside_checked_by lenient d end) none)
+last-past plain lenient d l last o s e h =
+    let end : ℕ = l.start + 2 * l.count in
+    let none : keep (is_inside l.start end) (slots_of plain l.start l.count) ≡ [] =
+    none_inside l.start end 0xFF0 (slots_of plain l.start l.count) (omega arith) s.falls (omega (arith, e)) in
+    sym (ap (listed_checked plain lenient d) o ∙ ap (inside_checked_by lenient d end) none)

@@ -1,9 +1,8 @@
 -- Document 01, "Slots and rows": the slots of a directory at `start` with `count` slots, and those that point into it. Assumes nothing.
-use Rattle.std.specs.Prelude.{ℕ, zero, suc, ◌+◌, ◌*◌, ◌≤◌, ◌<◌, List, [], ◌∷◌, Bool, ◌&&◌, ltb, leb, eqb, length}
+use Rattle.std.specs.Prelude.{ℕ, zero, suc, ◌+◌, ◌*◌, ◌≤◌, ◌<◌, List, [], ◌∷◌, Bool, ◌&&◌, ltb, leb, eqb, length, Option, Some, None}
 use Rattle.lists.specs.Cases.{pick}
 use Rattle.lists.specs.Bytes.{pair_at}
 use Rattle.lists.specs.Pieces.{each, keep}
-use Rattle.directory.specs.declared.verdicts.Inside.{Inside}
 
 -- the slots, in array order
 abbrev pub slots_of : List ℕ → ℕ → ℕ → List ℕ
@@ -16,10 +15,10 @@ is_inside start stop v = ltb 0 v && (leb start v && ltb v stop)
 unfoldable pub inside_of : List ℕ → ℕ → ℕ → List ℕ
 inside_of plain start count = keep (is_inside start (start + 2 * count)) (slots_of plain start count)
 
--- "the first in slot order", and how many
-abbrev pub tally_of : List ℕ → Inside
-tally_of [] = record { first = 0; dropped = 0 }
-tally_of (v ∷ l) = record { first = v; dropped = length (v ∷ l) }
+-- "the first in slot order"
+abbrev pub first_of : List ℕ → Option ℕ
+first_of [] = None
+first_of (v ∷ l) = Some v
 
 -- the last live slot, or 0: only private code needs it
 unfoldable pub last_live : List ℕ → ℕ

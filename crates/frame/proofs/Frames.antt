@@ -14,13 +14,15 @@ use Rattle.lists.specs.Pieces.{fold, over}
 use Rattle.lists.proofs.Booleans.{and_yes, and-not-both, and_left, and_right}
 use Rattle.lists.proofs.Fold.{fold_more}
 use Rattle.lists.proofs.Over.{front_at, front-take}
-use Rattle.numbers.specs.Numbers.{and_byte, big_endian, two_bytes, eight_bytes}
+use Rattle.numbers.specs.Numbers.{and_byte, big_endian, two_bytes}
 use Rattle.numbers.proofs.Widths.{two-big}
 use Rattle.digits.specs.Digits.{value_at, digit_values, values_into, worst_of, all_digits, spelled, hexed, paired_into}
 use Rattle.digits.proofs.Values.{worst-above, values-yes}
 use Rattle.digits.proofs.Spelling.{spelled_at_lem, spelled-length, values_length, values-at, pairs-spell, hexed-length, spelled-hexed, hexed-digits}
-use Rattle.frame.specs.Frames.{least_frame, frame_most, anchor_count, is_frame, page_number, option_bits, least_count, limit_of, good_of, frame_of, frame_in, frame_bytes}
-use Rattle.frame.specs.declared.reading.Frame.TheVariants.{Good, Nothing}
+use Rattle.frame.specs.Frames.{least_frame, frame_most, anchor_count, is_frame, good_of, frame_of, frame_in, frame_bytes}
+use Rattle.frame.specs.declared.reading.Frame.{Frame}
+use Rattle.std.specs.Int.{from_be_bytes}
+use Rattle.std.proofs.Common.{w16, w64, Some, None}
 
 -- the page number by its eight bytes
 big-none : (l : List ℕ) → big_endian (take 0 l) ≡ 0
@@ -32,7 +34,7 @@ unfolding big_endian
 big-more l i h = fold_more and_byte 0 l i 0 h
 
 pub big-eight : (l : List ℕ) → 8 ≤ length l
-    → eight_bytes (byte_at l 7) (byte_at l 6) (byte_at l 5) (byte_at l 4) (byte_at l 3) (byte_at l 2) (byte_at l 1) (byte_at l 0) ≡ big_endian (take 8 l)
+    → from_be_bytes w64 (byte_at l 0 ∷ byte_at l 1 ∷ byte_at l 2 ∷ byte_at l 3 ∷ byte_at l 4 ∷ byte_at l 5 ∷ byte_at l 6 ∷ byte_at l 7 ∷ []) ≡ big_endian (take 8 l)
 big-eight l h =
     let e0 = big-none l in
     let e1 = big-more l 0 (omega arith) in
@@ -46,11 +48,13 @@ big-eight l h =
     omega arith
 
 -- and the limit by its two
-pub big-two : (l : List ℕ) → 12 ≤ length l → two_bytes (byte_at l 11) (byte_at l 10) ≡ big_endian (drop 10 (take 12 l))
+pub big-two : (l : List ℕ) → 12 ≤ length l → from_be_bytes w16 (byte_at l 10 ∷ byte_at l 11 ∷ []) ≡ big_endian (drop 10 (take 12 l))
 big-two l h =
     let m : List ℕ = take 12 l in
     let long : length m ≡ 12 = length-take-le 12 l h in
-    sym (two-big (byte_at l 11) (byte_at l 10))
+    let two : from_be_bytes w16 (byte_at l 10 ∷ byte_at l 11 ∷ []) ≡ two_bytes (byte_at l 11) (byte_at l 10) = omega arith in
+    two
+    ∙ sym (two-big (byte_at l 11) (byte_at l 10))
     ∙ ap₂ (λ (a b : ℕ). big_endian (a ∷ b ∷ [])) (sym (get_or-take 12 l 10 0 (omega arith))) (sym (get_or-take 12 l 11 0 (omega arith)))
     ∙ ap (λ (r : List ℕ). big_endian (get_or m 10 0 ∷ get_or m 11 0 ∷ r)) (sym (ap (λ (n : ℕ). drop n m) (sym long) ∙ drop-length m))
     ∙ ap (λ (r : List ℕ). big_endian (get_or m 10 0 ∷ r)) (sym (drop-cons m 11 0 (omega arith)))
@@ -95,12 +99,12 @@ module _ (line : List ℕ) where
   frame_small e = let f = frame-facts e in count-byte f.0 (omega arith)
 
   -- what is answered, and what is written
-  pub answer-no : is_frame line ≡ false → Nothing ≡ frame_of line
+  pub answer-no : is_frame line ≡ false → None ≡ frame_of line
   unfolding frame_of
   answer-no e = rw e
 
   pub answer-yes : (bytes : List ℕ) → worst_of line < 16 → length line ≡ 2 * (least_frame + anchor_count line)
-      → good_of (over bytes 0 (spelled line)) (anchor_count line) ≡ frame_of line
+      → Some (good_of (over bytes 0 (spelled line)) (anchor_count line)) ≡ frame_of line
   unfolding frame_of
   answer-yes bytes h e =
       let n : length (spelled line) ≡ length line / 2 = spelled-length line in
@@ -112,7 +116,7 @@ module _ (line : List ℕ) where
         front-take bytes (spelled line) 12 (omega arith),
       ))
 
-  pub small : (m : ℕ) → m < frame_most → Nothing ≡ frame_in m line
+  pub small : (m : ℕ) → m < frame_most → None ≡ frame_in m line
   unfolding frame_in
   small m h = rw (lt-leb frame_most m h)
 
@@ -134,7 +138,7 @@ module _ (line : List ℕ) where
     bytes-yes h e = rw (le-leb frame_most (length bytes) h, e)
 
 -- a line that is no frame, where a frame would fit
-pub not-read : (line bytes : List ℕ) → frame_most ≤ length bytes → is_frame line ≡ false → (Nothing ≡ frame_in (length bytes) line) × (bytes ≡ frame_bytes line bytes)
+pub not-read : (line bytes : List ℕ) → frame_most ≤ length bytes → is_frame line ≡ false → (None ≡ frame_in (length bytes) line) × (bytes ≡ frame_bytes line bytes)
 not-read line bytes h e = (answer-no line e ∙ large line (length bytes) h, bytes-no line bytes h e)
 
 -- the values of the line's characters, at the front of a buffer: n, and the bytes that they spell
@@ -156,40 +160,29 @@ module _ (line room values : List ℕ) (h : length line ≤ length room) (e : va
       ap (λ (l : List ℕ). paired_into l bytes) all ∙ pairs-spell line w bytes b
 
 -- from the answer back to the line
-nothing-no : (b : Bool) (p o t m n : ℕ) → pick b (Good p o t m n) Nothing ≡ Nothing → b ≡ false
-nothing-no true p o t m n e = let z : ◌≡◌ {A = ℕ} 0 1 = cc in absurd (omega arith)
-nothing-no false p o t m n e = refl
+nothing-no : (b : Bool) (f : Frame) → pick b (Some f) None ≡ None → b ≡ false
+nothing-no true f e = cc
+nothing-no false f e = refl
 
-pub frame-nothing : (line : List ℕ) → frame_of line ≡ Nothing → is_frame line ≡ false
+pub frame-nothing : (line : List ℕ) → frame_of line ≡ None → is_frame line ≡ false
 unfolding frame_of
-frame-nothing line e = nothing-no (is_frame line) _ _ _ _ _ e
+frame-nothing line e = nothing-no (is_frame line) _ e
 
--- the fields that a frame was answered with are those of its bytes
-pub record Fields (line : List ℕ) (p o t m n : ℕ) : Type 0 where
-  pub frame : is_frame line ≡ true
-  pub number : p ≡ page_number (spelled line)
-  pub options : o ≡ option_bits (spelled line)
-  pub least : t ≡ least_count (spelled line)
-  pub limit : m ≡ limit_of (spelled line)
-  pub anchors : n ≡ anchor_count line
+-- a frame's fields are those of the line's bytes
+some-yes : (b : Bool) (f g : Frame) → pick b (Some g) None ≡ Some f → (b ≡ true) × (f ≡ g)
+some-yes true f g e = (refl, cc)
+some-yes false f g e = cc
 
-good-fields : (b : Bool) (p o t m n p' o' t' m' n' : ℕ) → pick b (Good p' o' t' m' n') Nothing ≡ Good p o t m n
-    → (b ≡ true) × (p ≡ p') × (o ≡ o') × (t ≡ t') × (m ≡ m') × (n ≡ n')
-good-fields true p o t m n p' o' t' m' n' e = (refl, cc, cc, cc, cc, cc)
-good-fields false p o t m n p' o' t' m' n' e = let z : ◌≡◌ {A = ℕ} 0 1 = cc in absurd (omega arith)
-
-pub frame-good : (line : List ℕ) (p o t m n : ℕ) → frame_of line ≡ Good p o t m n → Fields line p o t m n
+pub frame-good : (line : List ℕ) (f : Frame) → frame_of line ≡ Some f → (is_frame line ≡ true) × (f ≡ good_of (spelled line) (anchor_count line))
 unfolding frame_of
-frame-good line p o t m n e =
-    let f = good-fields (is_frame line) p o t m n _ _ _ _ _ e in
-    record { frame = f.0; number = f.1; options = f.2; least = f.3; limit = f.4; anchors = f.5 }
+frame-good line f e = some-yes (is_frame line) f _ e
 
 -- The bytes of a frame, written as hexadecimal, are read back: thirteen bytes, as many anchors as the last of them says, and 4,096.
 pub frame-hexed : (bytes : List ℕ) → ((k : ℕ) → k < length bytes → byte_at bytes k < 256) → length bytes ≡ least_frame + byte_at bytes 12
-    → frame_of (hexed bytes) ≡ good_of bytes (byte_at bytes 12)
+    → frame_of (hexed bytes) ≡ Some (good_of bytes (byte_at bytes 12))
 unfolding frame_of
 frame-hexed bytes b h =
     let back : spelled (hexed bytes) ≡ bytes = spelled-hexed bytes b in
     let n : anchor_count (hexed bytes) ≡ byte_at bytes 12 = ap (λ (l : List ℕ). byte_at l 12) back in
     let yes : is_frame (hexed bytes) ≡ true = frame-yes (hexed bytes) (hexed-digits bytes b) (omega (arith, hexed-length bytes)) in
-    rw yes (ap₂ good_of back n)
+    rw yes (ap₂ (λ (l : List ℕ) (i : ℕ). Some (good_of l i)) back n)

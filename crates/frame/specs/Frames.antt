@@ -1,13 +1,12 @@
 -- Document 01, "The program": "one frame a line: page number (8 bytes, big-endian), option bits, T, n (a byte each), n anchors, 4,096 stored
 -- bytes"; request #109: the frame carries the limit "as two big-endian bytes after T". Assumes nothing.
-use Rattle.std.specs.Prelude.{ℕ, ◌+◌, ◌*◌, Bool, ◌&&◌, List, eqb, leb, length, take, drop}
+use Rattle.std.specs.Prelude.{ℕ, ◌+◌, ◌*◌, Bool, ◌&&◌, Option, Some, None, List, eqb, leb, length, take, drop}
 use Rattle.lists.specs.Cases.{pick}
 use Rattle.lists.specs.Bytes.{byte_at}
 use Rattle.lists.specs.Pieces.{over}
 use Rattle.digits.specs.Digits.{all_digits, spelled}
 use Rattle.numbers.specs.Numbers.{big_endian}
 use Rattle.frame.specs.declared.reading.Frame.{Frame}
-use Rattle.frame.specs.declared.reading.Frame.TheVariants.{Good, Nothing}
 
 -- the bytes before the anchors, those of a frame with none and with 255, and the characters of a line that tell whether it is one
 abbrev pub head_size : ℕ
@@ -50,14 +49,15 @@ abbrev pub stored_of : ℕ → List ℕ → List ℕ
 stored_of n bytes = take 4096 (drop (head_size + n) bytes)
 
 abbrev pub good_of : List ℕ → ℕ → Frame
-good_of bytes n = Good (page_number bytes) (option_bits bytes) (least_count bytes) (limit_of bytes) n
+good_of bytes n =
+    record { number = page_number bytes; options = option_bits bytes; t = least_count bytes; limit = limit_of bytes; anchors = n }
 
-unfoldable pub frame_of : List ℕ → Frame
-frame_of line = pick (is_frame line) (good_of (spelled line) (anchor_count line)) Nothing
+unfoldable pub frame_of : List ℕ → Option Frame
+frame_of line = pick (is_frame line) (Some (good_of (spelled line) (anchor_count line))) None
 
 -- what `read_frame` answers with a buffer of m bytes: one that the longest frame does not fit takes none
-unfoldable pub frame_in : ℕ → List ℕ → Frame
-frame_in m line = pick (leb frame_most m) (frame_of line) Nothing
+unfoldable pub frame_in : ℕ → List ℕ → Option Frame
+frame_in m line = pick (leb frame_most m) (frame_of line) None
 
 -- and what the buffer holds then: a frame's bytes at its front; otherwise what it held
 unfoldable pub frame_bytes : List ℕ → List ℕ → List ℕ

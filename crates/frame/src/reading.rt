@@ -4,7 +4,6 @@ ghost use Rattle.std.specs.Prelude.{◌≡◌, ◌+◌, ◌≤◌, length};
 ghost use Rattle.frame.specs.Frames.{head_size, least_frame, frame_most, frame_of, frame_in, frame_bytes, good_of, page_number, limit_of};
 
 use digits::{digit_pair, digit_values, pair_up};
-use numbers::{eight, pair, wide};
 
 // The bytes before the anchors, and those of the page.
 pub const HEAD: usize = 13;
@@ -17,32 +16,29 @@ pub const LINE_ROOM: usize = 2 * FRAME_MOST + 1;
 
 const FRAME_LEAST: usize = HEAD + PAGE;
 
-// What a line says: the fields, with the number of anchors; its bytes stand in a lent buffer. Any other line is `Nothing`.
-#[derive(Clone, Copy)]
-pub enum Frame {
-    Good {
-        number: u64,
-        options: u8,
-        t: u8,
-        limit: usize,
-        anchors: usize,
-    },
-    Nothing,
+// A frame's fields, with the number of anchors. Its bytes stand in a lent buffer.
+#[derive(Clone, Copy, PartialEq, Eq)]
+pub struct Frame {
+    pub number: u64,
+    pub options: u8,
+    pub t: u8,
+    pub limit: usize,
+    pub anchors: usize,
 }
 
 // Reads a line; a frame's bytes go to the front of `bytes`, which needs room for the longest. Nothing is written for another line.
-pub fn read_frame(line: &[u8], bytes: &mut [u8]) -> Frame
+pub fn read_frame(line: &[u8], bytes: &mut [u8]) -> Option<Frame>
     ensures value { result ≡ frame_in (length bytes.old) line.now }
     ensures bytes_after { bytes.new ≡ frame_bytes line.now bytes.old }
 {
     if bytes.len() < FRAME_MOST {
-        return Frame::Nothing;
+        return None;
     }
     if line.len() < 2 * FRAME_LEAST {
-        return Frame::Nothing;
+        return None;
     }
     if 2 * FRAME_MOST < line.len() {
-        return Frame::Nothing;
+        return None;
     }
     let mut values = value_room();
     read_digits(line, &mut values, bytes)
@@ -55,28 +51,27 @@ fn value_room() -> [u8; 2 * FRAME_MOST]
     [0; 2 * FRAME_MOST]
 }
 
-fn read_digits(line: &[u8], values: &mut [u8], bytes: &mut [u8]) -> Frame
+fn read_digits(line: &[u8], values: &mut [u8], bytes: &mut [u8]) -> Option<Frame>
     requires { (least_frame + least_frame ≤ length line.now) × (length line.now ≤ length values.old) × (frame_most ≤ length bytes.old) }
     ensures value { result ≡ frame_of line.now }
     ensures bytes_after { bytes.new ≡ frame_bytes line.now bytes.old }
 {
     if 16 <= digit_values(line, values) {
-        return Frame::Nothing;
+        return None;
     }
-    let n = wide(digit_pair(values[24], values[25]));
+    let n = usize::from(digit_pair(values[24], values[25]));
     if line.len() != 2 * FRAME_LEAST + n + n {
-        return Frame::Nothing;
+        return None;
     }
-    let len = line.len();
-    pair_up(&values[0..len], bytes);
-    fields(bytes, n)
+    pair_up(&values[..line.len()], bytes);
+    Some(fields(bytes, n))
 }
 
 fn fields(bytes: &[u8], n: usize) -> Frame
     requires { head_size ≤ length bytes.now }
     ensures { result ≡ good_of bytes.now n }
 {
-    Frame::Good {
+    Frame {
         number: page_number(bytes),
         options: bytes[8],
         t: bytes[9],
@@ -90,9 +85,9 @@ fn page_number(bytes: &[u8]) -> u64
     requires { 8 ≤ length bytes.now }
     ensures { result ≡ page_number bytes.now }
 {
-    eight(
-        bytes[7], bytes[6], bytes[5], bytes[4], bytes[3], bytes[2], bytes[1], bytes[0],
-    )
+    u64::from_be_bytes([
+        bytes[0], bytes[1], bytes[2], bytes[3], bytes[4], bytes[5], bytes[6], bytes[7],
+    ])
 }
 
 // Two bytes, the greater first: any number of two bytes is read, also one that is no limit.
@@ -100,5 +95,5 @@ fn search_limit(bytes: &[u8]) -> usize
     requires { head_size ≤ length bytes.now }
     ensures { result ≡ limit_of bytes.now }
 {
-    pair(bytes[11], bytes[10]) as usize
+    usize::from(u16::from_be_bytes([bytes[10], bytes[11]]))
 }

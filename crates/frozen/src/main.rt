@@ -1,7 +1,7 @@
 // Frozen answers: questions put to the functions that `lumeviqo_c` hands on to C, and what the original answered to each. A question is a head of 30 bytes,
 // then a page, anchors and a sector's bytes, each as long as the head says. The head, the least byte of a number first:
 //
-//   0   1  what is asked, by the numbers of `answer` below      20  2  sector or row
+//   0   1  what is asked, by the numbers of `Asked` below       20  2  sector or row
 //   1   8  page number                                          22  2  length of the page
 //   9   2  leniency, T                                          24  2  length of the anchors
 //   11  8  search limit                                         26  2  length of the sector's bytes
@@ -11,34 +11,88 @@
 // stdin and stdout were made beside the original, by compare/driver/src/bin/freeze.rs; the program needs no original.
 #![tactic(auto)]
 
-ghost use Rattle.std.specs.Prelude.{length, ◌≡◌, ◌≤◌};
-ghost use Rattle.parse_layout.specs.ParseLayouts.{parse_size};
+ghost use Rattle.std.specs.Prelude.{◌≤◌, length};
 
 use layout::SCAN_SIZE;
+use lumeviqo::{
+    lumeviqo_crc32, lumeviqo_decode, lumeviqo_decode_summary, lumeviqo_decode_supplied,
+    lumeviqo_decode_supplied_summary, lumeviqo_integrity, lumeviqo_parse, lumeviqo_replace,
+    lumeviqo_row, lumeviqo_row_count, lumeviqo_rows, lumeviqo_scan, lumeviqo_superblock,
+    lumeviqo_superblock_checked, lumeviqo_trailer,
+};
 use parse_layout::PARSE_SIZE;
 use parts::ANSWER_SIZE;
+use reading::read_full;
 use std::io;
 use std::io::Read;
 
+// What is asked.
+#[derive(Clone, Copy)]
+enum Asked {
+    Crc,
+    Trailer,
+    Integrity,
+    Superblock,
+    CheckedSuperblock,
+    Scan,
+    Replacement,
+    Decoding,
+    Supplied,
+    Parse,
+    RowCount,
+    Row,
+    Rows,
+    SuppliedSummary,
+}
+
 #[derive(Drop)]
-struct Question {
+struct UnknownNumber;
+
+impl TryFrom<u8> for Asked {
+    type Error = UnknownNumber;
+
+    fn try_from(number: u8) -> Result<Self, UnknownNumber> {
+        match number {
+            1 => Ok(Asked::Crc),
+            2 => Ok(Asked::Trailer),
+            3 => Ok(Asked::Integrity),
+            4 => Ok(Asked::Superblock),
+            5 => Ok(Asked::CheckedSuperblock),
+            6 => Ok(Asked::Scan),
+            7 => Ok(Asked::Replacement),
+            8 => Ok(Asked::Decoding),
+            9 => Ok(Asked::Supplied),
+            10 => Ok(Asked::Parse),
+            11 => Ok(Asked::RowCount),
+            12 => Ok(Asked::Row),
+            13 => Ok(Asked::Rows),
+            14 => Ok(Asked::SuppliedSummary),
+            _ => Err(UnknownNumber),
+        }
+    }
+}
+
+// What a question is about. `place` is a sector or a row.
+#[derive(Clone, Copy)]
+struct Question<'a> {
     number: u64,
     leniency: u8,
     t: u8,
     limit: usize,
     bv: u8,
-    place: u16,
-    room: u16,
+    place: usize,
+    room: usize,
+    page: &'a [u8],
+    anchors: &'a [u8],
+    bytes: &'a [u8],
 }
 
 // Question after question. The turns are counted, since nothing says that the input ends: no run uses them up.
 fn main(rt: HostRuntime) -> io::Result<()> {
-    let mut turns = u64::MAX;
-    while turns > 0 {
+    for _ in 0..u64::MAX {
         if !next(&rt, &mut rt.stdin())? {
-            return Ok(());
+            break;
         }
-        turns -= 1;
     }
     Ok(())
 }
@@ -46,411 +100,198 @@ fn main(rt: HostRuntime) -> io::Result<()> {
 // Reads a question and answers it; false at the end of input.
 fn next(rt: &impl Print, input: &mut impl Read) -> io::Result<bool> {
     let mut head = [0u8; 30];
-    if read_full(input, &mut head)? < 30 {
+    if read_full(input, &mut head)? < head.len() {
         return Ok(false);
     }
-    with_page(rt, input, &head)?;
-    text(rt, b"\n")?;
+    let mut page = [0u8; 65536];
+    let mut anchors = [0u8; 4096];
+    let mut bytes = [0u8; 4096];
+    let question = Question {
+        number: u64::from_le_bytes(part(&head, 1)),
+        leniency: head[9],
+        t: head[10],
+        limit: u64::from_le_bytes(part(&head, 11)) as usize,
+        bv: head[19],
+        place: short(&head, 20),
+        room: short(&head, 28),
+        page: read(input, &mut page, short(&head, 22))?,
+        anchors: read(input, &mut anchors, short(&head, 24))?,
+        bytes: read(input, &mut bytes, short(&head, 26))?,
+    };
+    match Asked::try_from(head[0]) {
+        Ok(asked) => answer(rt, asked, question)?,
+        Err(UnknownNumber) => rt.print("?")?,
+    }
+    rt.println("")?;
     Ok(true)
 }
 
-// The page, the anchors and the sector's bytes are read in their order, each by a function of its own: a buffer's length is then plain to see.
-fn with_page(rt: &impl Print, input: &mut impl Read, head: &[u8]) -> io::Result<()> {
-    let mut page = [0u8; 65536];
-    read(input, &mut page, short(head, 22))?;
-    with_anchors(rt, input, head, &mut page)
+fn short(head: &[u8; 30], at: usize) -> usize {
+    usize::from(u16::from_le_bytes(part(head, at)))
 }
 
-fn with_anchors(
-    rt: &impl Print,
-    input: &mut impl Read,
-    head: &[u8],
-    page: &mut [u8],
-) -> io::Result<()> {
-    let mut anchors = [0u8; 4096];
-    read(input, &mut anchors, short(head, 24))?;
-    with_bytes(rt, input, head, page, &anchors)
+fn part<const N: usize>(head: &[u8; 30], at: usize) -> [u8; N] {
+    head.get(at..)
+        .and_then(|rest| rest.first_chunk())
+        .copied()
+        .unwrap_or([0; N])
 }
 
-fn with_bytes(
-    rt: &impl Print,
-    input: &mut impl Read,
-    head: &[u8],
-    page: &mut [u8],
-    anchors: &[u8],
-) -> io::Result<()> {
-    let mut bytes = [0u8; 4096];
-    read(input, &mut bytes, short(head, 26))?;
-    ask(rt, head, page, anchors, &bytes)
+// The next n bytes of the input, in the front of a buffer.
+fn read<'a>(input: &mut impl Read, buffer: &'a mut [u8], n: usize) -> io::Result<&'a mut [u8]> {
+    let part = front(buffer, n);
+    read_full(input, part)?;
+    Ok(part)
 }
 
-// The next n bytes of the input, at the start of a buffer.
-fn read(input: &mut impl Read, buffer: &mut [u8], n: u16) -> io::Result<()> {
-    let room = within(n as usize, buffer);
-    read_full(input, &mut buffer[..room])?;
-    Ok(())
-}
-
-// Reads until the buffer is full or the input ends, and says how many bytes were put at its start.
-fn read_full(input: &mut impl Read, buffer: &mut [u8]) -> io::Result<usize> {
-    let mut done: usize = 0;
-    while done < buffer.len() {
-        let n = input.read(&mut buffer[done..])?;
-        if n == 0 {
-            break;
-        }
-        done += n;
-    }
-    Ok(done)
-}
-
-// A number of bytes, and never more than a buffer has.
-fn within(n: usize, buffer: &[u8]) -> usize
-    ensures { result ≤ length buffer.now }
+// The first n bytes, or all where there are fewer.
+fn front(buffer: &mut [u8], n: usize) -> &mut [u8]
+    ensures { length result.now ≤ n }
 {
-    if n < buffer.len() { n } else { buffer.len() }
+    let n = n.min(buffer.len());
+    &mut buffer[..n]
 }
 
-fn ask(
-    rt: &impl Print,
-    head: &[u8],
-    page: &mut [u8],
-    anchors: &[u8],
-    bytes: &[u8],
-) -> io::Result<()> {
-    let p = within(short(head, 22) as usize, page);
-    let a = within(short(head, 24) as usize, anchors);
-    let b = within(short(head, 26) as usize, bytes);
-    answer(
-        rt,
-        at(head, 0),
-        question_in(head),
-        &mut page[..p],
-        &anchors[..a],
-        &bytes[..b],
-    )
-}
-
-fn question_in(head: &[u8]) -> Question {
-    Question {
-        number: long(head, 1),
-        leniency: at(head, 9),
-        t: at(head, 10),
-        limit: long(head, 11) as usize,
-        bv: at(head, 19),
-        place: short(head, 20),
-        room: short(head, 28),
-    }
-}
-
-fn at(b: &[u8], k: usize) -> u8 {
-    if k < b.len() { b[k] } else { 0 }
-}
-
-fn short(b: &[u8], k: usize) -> u16 {
-    if b.len() <= k {
-        return 0;
-    }
-    numbers::pair(at(b, k), at(b, k + 1))
-}
-
-fn long(b: &[u8], k: u8) -> u64 {
-    let k = k as usize;
-    numbers::eight(
-        at(b, k),
-        at(b, k + 1),
-        at(b, k + 2),
-        at(b, k + 3),
-        at(b, k + 4),
-        at(b, k + 5),
-        at(b, k + 6),
-        at(b, k + 7),
-    )
-}
-
-fn answer(
-    rt: &impl Print,
-    asked: u8,
-    q: Question,
-    page: &mut [u8],
-    anchors: &[u8],
-    bytes: &[u8],
-) -> io::Result<()> {
+fn answer(rt: &impl Print, asked: Asked, q: Question) -> io::Result<()> {
     match asked {
-        1 => crc(rt, page),
-        2 => trailer(rt, page),
-        3 => integrity(rt, q.number, page),
-        4 => superblock(rt, page),
-        5 => checked_superblock(rt, page),
-        6 => scan(rt, q, page),
-        7 => replacement(rt, q, page, anchors, bytes),
-        8 => decoding(rt, q, page, anchors),
-        9 => supplied(rt, q, page),
-        10 => parse(rt, q, page),
-        11 => row_count(rt, q, page),
-        12 => row(rt, q, page),
-        13 => rows(rt, q, page),
-        14 => supplied_summary(rt, q, page),
-        _ => text(rt, b"?"),
+        Asked::Crc => crc(rt, q.page),
+        Asked::Trailer => told(rt, |answer| lumeviqo_trailer(q.page, answer)),
+        Asked::Integrity => told(rt, |answer| lumeviqo_integrity(q.number, q.page, answer)),
+        Asked::Superblock => told(rt, |answer| lumeviqo_superblock(q.page, answer)),
+        Asked::CheckedSuperblock => told(rt, |answer| lumeviqo_superblock_checked(q.page, answer)),
+        Asked::Scan => scan(rt, q),
+        Asked::Replacement => replacement(rt, q),
+        Asked::Decoding => decoding(rt, q),
+        Asked::Supplied => supplied(rt, q),
+        Asked::Parse => told(rt, |answer| {
+            lumeviqo_parse(q.number, q.page, q.leniency, q.limit, answer)
+        }),
+        Asked::RowCount => told(rt, |answer| {
+            lumeviqo_row_count(q.number, q.page, q.leniency, q.limit, answer)
+        }),
+        Asked::Row => told(rt, |answer| {
+            lumeviqo_row(q.number, q.page, q.leniency, q.limit, q.place, answer)
+        }),
+        Asked::Rows => told(rt, |answer| {
+            lumeviqo_rows(q.number, q.page, q.leniency, q.limit, answer)
+        }),
+        Asked::SuppliedSummary => supplied_summary(rt, q),
     }
 }
 
-fn trailer(rt: &impl Print, page: &[u8]) -> io::Result<()> {
-    let mut answer = answer_room();
-    let n = lumeviqo::lumeviqo_trailer(page, &mut answer);
-    tell(rt, &answer, n)
-}
-
-fn integrity(rt: &impl Print, number: u64, page: &[u8]) -> io::Result<()> {
-    let mut answer = answer_room();
-    let n = lumeviqo::lumeviqo_integrity(number, page, &mut answer);
-    tell(rt, &answer, n)
-}
-
-fn superblock(rt: &impl Print, page: &[u8]) -> io::Result<()> {
-    let mut answer = answer_room();
-    let n = lumeviqo::lumeviqo_superblock(page, &mut answer);
-    tell(rt, &answer, n)
-}
-
-fn checked_superblock(rt: &impl Print, page: &[u8]) -> io::Result<()> {
-    let mut answer = answer_room();
-    let n = lumeviqo::lumeviqo_superblock_checked(page, &mut answer);
-    tell(rt, &answer, n)
-}
-
-fn scan(rt: &impl Print, q: Question, page: &[u8]) -> io::Result<()> {
+fn scan(rt: &impl Print, q: Question) -> io::Result<()> {
     let mut shifted = [0u8; 4096];
-    scan_to(rt, q, page, &mut shifted)
-}
-
-fn scan_to(rt: &impl Print, q: Question, page: &[u8], shifted: &mut [u8]) -> io::Result<()> {
-    let mut answer = answer_room();
-    let room = within(q.room as usize, shifted);
-    let n = lumeviqo::lumeviqo_scan(q.number, page, &mut shifted[..room], &mut answer);
-    tell(rt, &answer, n)?;
-    crc_of(rt, shifted, q.room)
+    let shifted = front(&mut shifted, q.room);
+    told(
+        rt,
+        |answer| lumeviqo_scan(q.number, q.page, shifted, answer),
+    )?;
+    crc(rt, shifted)
 }
 
 // A scan, the replacement, and the decoding from the summary as it then stands.
-fn replacement(
-    rt: &impl Print,
-    q: Question,
-    page: &mut [u8],
-    anchors: &[u8],
-    bytes: &[u8],
-) -> io::Result<()> {
-    let mut shifted = shifted_room();
-    replace_in(rt, q, page, &mut shifted, anchors, bytes)
-}
-
-fn replace_in(
-    rt: &impl Print,
-    q: Question,
-    page: &mut [u8],
-    shifted: &mut [u8],
-    anchors: &[u8],
-    bytes: &[u8],
-) -> io::Result<()> {
-    let mut scanned = answer_room();
-    let mut replaced = answer_room();
-    lumeviqo::lumeviqo_scan(q.number, page, shifted, &mut scanned);
-    let n = lumeviqo::lumeviqo_replace(
+fn replacement(rt: &impl Print, q: Question) -> io::Result<()> {
+    // A copy, since it is written to.
+    let mut room = [0u8; 65536];
+    let page = front(&mut room, q.page.len());
+    let n = page.len();
+    page.copy_from_slice(&q.page[..n]);
+    let mut shifted = [0u8; 4080];
+    let mut scanned = [0u8; SCAN_SIZE];
+    let mut replaced = [0u8; SCAN_SIZE];
+    lumeviqo_scan(q.number, page, &mut shifted, &mut scanned);
+    let n = lumeviqo_replace(
         q.number,
         page,
-        shifted,
-        &scanned[ANSWER_SIZE..SCAN_SIZE],
-        q.place as usize,
-        bytes,
+        &mut shifted,
+        &scanned[ANSWER_SIZE..],
+        q.place,
+        q.bytes,
         &mut replaced,
     );
-    tell(rt, &replaced, n)?;
+    tell(rt, &mut replaced, n)?;
     crc(rt, page)?;
-    crc(rt, shifted)?;
-    text(rt, b" ")?;
-    decode_summary(
-        rt,
-        q,
-        page,
-        &replaced[ANSWER_SIZE..SCAN_SIZE],
-        shifted,
-        anchors,
-    )
-}
-
-fn decode_summary(
-    rt: &impl Print,
-    q: Question,
-    page: &[u8],
-    fits: &[u8],
-    shifted: &[u8],
-    anchors: &[u8],
-) -> io::Result<()> {
-    let mut answer = answer_room();
+    crc(rt, &shifted)?;
+    rt.print(" ")?;
     let mut out = [0u8; 4096];
-    let n = lumeviqo::lumeviqo_decode_summary(
-        q.number,
-        page,
-        fits,
-        shifted,
-        anchors,
-        q.leniency,
-        q.t,
-        q.limit,
-        &mut out,
-        &mut answer,
-    );
-    tell(rt, &answer, n)?;
+    told(rt, |answer| {
+        lumeviqo_decode_summary(
+            q.number,
+            page,
+            &replaced[ANSWER_SIZE..],
+            &shifted,
+            q.anchors,
+            q.leniency,
+            q.t,
+            q.limit,
+            &mut out,
+            answer,
+        )
+    })?;
     crc(rt, &out)
 }
 
-fn decoding(rt: &impl Print, q: Question, page: &[u8], anchors: &[u8]) -> io::Result<()> {
+fn decoding(rt: &impl Print, q: Question) -> io::Result<()> {
     let mut out = [0u8; 4096];
-    decode_to(rt, q, page, anchors, &mut out)
+    let out = front(&mut out, q.room);
+    told(rt, |answer| {
+        lumeviqo_decode(
+            q.number, q.page, q.anchors, q.leniency, q.t, q.limit, out, answer,
+        )
+    })?;
+    crc(rt, out)
 }
 
-fn decode_to(
-    rt: &impl Print,
-    q: Question,
-    page: &[u8],
-    anchors: &[u8],
-    out: &mut [u8],
-) -> io::Result<()> {
-    let mut answer = answer_room();
-    let room = within(q.room as usize, out);
-    let n = lumeviqo::lumeviqo_decode(
-        q.number,
-        page,
-        anchors,
-        q.leniency,
-        q.t,
-        q.limit,
-        &mut out[..room],
-        &mut answer,
-    );
-    tell(rt, &answer, n)?;
-    crc_of(rt, out, q.room)
-}
-
-fn supplied(rt: &impl Print, q: Question, page: &[u8]) -> io::Result<()> {
-    let mut answer = answer_room();
+fn supplied(rt: &impl Print, q: Question) -> io::Result<()> {
     let mut out = [0u8; 4096];
-    let n = lumeviqo::lumeviqo_decode_supplied(
-        q.number,
-        page,
-        q.bv,
-        q.leniency,
-        q.t,
-        q.limit,
-        &mut out,
-        &mut answer,
-    );
-    tell(rt, &answer, n)?;
+    told(rt, |answer| {
+        lumeviqo_decode_supplied(
+            q.number, q.page, q.bv, q.leniency, q.t, q.limit, &mut out, answer,
+        )
+    })?;
     crc(rt, &out)
 }
 
 // A scan, and the decoding from its summary with the bv of the question.
-fn supplied_summary(rt: &impl Print, q: Question, page: &[u8]) -> io::Result<()> {
-    let mut shifted = shifted_room();
-    let mut scanned = answer_room();
-    lumeviqo::lumeviqo_scan(q.number, page, &mut shifted, &mut scanned);
-    supplied_from(rt, q, page, &scanned[ANSWER_SIZE..SCAN_SIZE], &shifted)
-}
-
-fn supplied_from(
-    rt: &impl Print,
-    q: Question,
-    page: &[u8],
-    fits: &[u8],
-    shifted: &[u8],
-) -> io::Result<()> {
-    let mut answer = answer_room();
+fn supplied_summary(rt: &impl Print, q: Question) -> io::Result<()> {
+    let mut shifted = [0u8; 4080];
+    let mut scanned = [0u8; SCAN_SIZE];
+    lumeviqo_scan(q.number, q.page, &mut shifted, &mut scanned);
     let mut out = [0u8; 4096];
-    let n = lumeviqo::lumeviqo_decode_supplied_summary(
-        q.number,
-        page,
-        fits,
-        shifted,
-        q.bv,
-        q.leniency,
-        q.t,
-        q.limit,
-        &mut out,
-        &mut answer,
-    );
-    tell(rt, &answer, n)?;
+    told(rt, |answer| {
+        lumeviqo_decode_supplied_summary(
+            q.number,
+            q.page,
+            &scanned[ANSWER_SIZE..],
+            &shifted,
+            q.bv,
+            q.leniency,
+            q.t,
+            q.limit,
+            &mut out,
+            answer,
+        )
+    })?;
     crc(rt, &out)
 }
 
-fn parse(rt: &impl Print, q: Question, plain: &[u8]) -> io::Result<()> {
-    let mut answer = answer_room();
-    let n = lumeviqo::lumeviqo_parse(q.number, plain, q.leniency, q.limit, &mut answer);
-    tell(rt, &answer, n)
-}
-
-fn row_count(rt: &impl Print, q: Question, plain: &[u8]) -> io::Result<()> {
-    let mut answer = answer_room();
-    let n = lumeviqo::lumeviqo_row_count(q.number, plain, q.leniency, q.limit, &mut answer);
-    tell(rt, &answer, n)
-}
-
-fn row(rt: &impl Print, q: Question, plain: &[u8]) -> io::Result<()> {
-    let mut answer = answer_room();
-    let n = lumeviqo::lumeviqo_row(
-        q.number,
-        plain,
-        q.leniency,
-        q.limit,
-        q.place as usize,
-        &mut answer,
-    );
-    tell(rt, &answer, n)
-}
-
-fn rows(rt: &impl Print, q: Question, plain: &[u8]) -> io::Result<()> {
-    let mut answer = answer_room();
-    let n = lumeviqo::lumeviqo_rows(q.number, plain, q.leniency, q.limit, &mut answer);
-    tell(rt, &answer, n)
-}
-
-// Zeros. The contracts give the lengths alone.
-fn shifted_room() -> [u8; 4080]
-    ensures { 4080 ≡ length result }
+// What a call writes into room for the longest layout, a parse.
+fn told<F: FnOnce(&mut [u8]) -> usize>(rt: &impl Print, call: F) -> io::Result<()>
+    requires { F.IsAlwaysCallable call }
 {
-    [0; 4080]
+    let mut answer = [0u8; PARSE_SIZE];
+    let n = call(&mut answer);
+    tell(rt, &mut answer, n)
 }
 
-// Room for the longest layout, a parse.
-fn answer_room() -> [u8; PARSE_SIZE]
-    ensures { parse_size ≡ length result }
-{
-    [0; PARSE_SIZE]
-}
-
-// What a call wrote.
-fn tell(rt: &impl Print, answer: &[u8], n: usize) -> io::Result<()> {
-    let n = within(n, answer);
-    hex(rt, &answer[..n])
-}
-
-// The CRC of the first n bytes.
-fn crc_of(rt: &impl Print, bytes: &[u8], n: u16) -> io::Result<()> {
-    let n = within(n as usize, bytes);
-    crc(rt, &bytes[..n])
+// The first n bytes of a layout.
+fn tell(rt: &impl Print, answer: &mut [u8], n: usize) -> io::Result<()> {
+    let mut digits = [0u8; 65536];
+    let n = digits::write_hex(front(answer, n), &mut digits);
+    rt.write_all(front(&mut digits, n))
 }
 
 fn crc(rt: &impl Print, bytes: &[u8]) -> io::Result<()> {
-    let crc = lumeviqo::lumeviqo_crc32(bytes);
+    let crc = lumeviqo_crc32(bytes);
     print!(rt; " {crc:08x}")
-}
-
-fn hex(rt: &impl Print, bytes: &[u8]) -> io::Result<()> {
-    let mut digits = [0u8; 65536];
-    let n = digits::write_hex(bytes, &mut digits);
-    let n = within(n, &digits);
-    text(rt, &digits[..n])
-}
-
-fn text(rt: &impl Print, s: &[u8]) -> io::Result<()> {
-    rt.write_all(s)
 }

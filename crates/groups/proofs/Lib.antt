@@ -1,4 +1,4 @@
--- Laws of groups of candidates: their members, the table that holds them, the order within.
-pub mod Membership
+-- Laws of groups of candidates: the table that holds them, the order within.
+pub mod Listed
 pub mod GroupTable
 pub mod Order

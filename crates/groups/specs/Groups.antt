@@ -2,8 +2,8 @@
 use Rattle.std.specs.Prelude.{ℕ, max, Bool, not, ◌&&◌, ◌||◌, List, eqb, ltb, leb, get_or}
 use Rattle.lists.specs.Cases.{pick, flag}
 use Rattle.lists.specs.Pieces.{keep, fold}
-use Rattle.answers.specs.Answers.{no_bvs, with_bv}
-use Rattle.answers.specs.declared.kinds.Bvs.{Bvs}
+use Rattle.answers.specs.Answers.{Bvs}
+use Rattle.answers.specs.Tables.{empty, with_item}
 use Rattle.votes.specs.Votes.{blank_candidate, tabled, listed}
 use Rattle.votes.specs.declared.Candidate.{Candidate}
 use Rattle.votes.specs.declared.Candidates.{Candidates}
@@ -70,7 +70,7 @@ most_of l = fold or_zeros 0 l
 
 -- the values of bv of a group, in its order; its meaning is `meanings/BvTable.group-lists`
 abbrev pub and_bv : Bvs → Candidate → Bvs
-and_bv t c = with_bv t c.bv
+and_bv t c = with_item t c.bv
 
 unfoldable pub bvs_of : List Candidate → Bvs
-bvs_of l = fold and_bv no_bvs l
+bvs_of l = fold and_bv empty l

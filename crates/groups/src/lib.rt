@@ -1,4 +1,4 @@
-// Groups of candidates: document 01, "Choosing bv". A group is a value, so one loop serves every rule; what a rule takes of a group is its first
+// Groups of candidates: document 01, "Choosing bv". What a rule takes of a group is its first
 // candidate, the highest in rank, the greatest count, or the values of bv. In the original's ap.rs these are iterators over its candidates.
 #![tactic(auto)]
 
@@ -10,7 +10,7 @@ pub use figures::{bvs, most};
 pub use members::kept;
 pub use ranks::{first, highest};
 
-// The groups that the rules speak of.
+// The groups that the rules speak of. A value and no closure: the theorems on the choice name them, by `belongs`.
 #[derive(Clone, Copy)]
 pub enum Group {
     Verified,

@@ -1,77 +1,42 @@
 // The rank within a group.
 ghost use Rattle.std.specs.Prelude.{◌≡◌};
-ghost use Rattle.lists.specs.Cases.{flag};
 ghost use Rattle.votes.specs.Votes.{listed};
 ghost use Rattle.groups.specs.Groups.{first_of, outranks, higher, highest_of};
 
-use crate::members::at_most_eight;
+use crate::members::listed;
 use votes::{Candidate, Candidates};
 
 // The first candidate of a table; of an empty one a blank.
 pub fn first(t: Candidates) -> Candidate
     ensures { result ≡ first_of (listed t) }
 {
-    if t.len == 0 {
-        return Candidate {
-            bv: 0,
-            zeros: 0,
-            votes: 0,
-            verified: false,
-            anchored: false,
-        };
-    }
-    t.items[0]
+    listed(&t).first().copied().unwrap_or_default()
 }
 
 // The candidate that ranks above the others.
 pub fn highest(t: Candidates) -> Candidate
     ensures { result ≡ highest_of (listed t) }
 {
-    let n = at_most_eight(t.len);
-    let mut leader = first(t);
-    let mut i: usize = 0;
-    while i < n {
-        let c = t.items[i];
-        leader = higher_ranked(leader, c);
-        i += 1;
-    }
-    leader
+    listed(&t)
+        .iter()
+        .fold(first(t), |best, c| higher_ranked(best, *c))
 }
 
+#[tactic(auto, unfolding(crate::specs::Groups::higher))]
 fn higher_ranked(best: Candidate, c: Candidate) -> Candidate
     ensures { result ≡ higher best c }
 {
-    if ranks_above(c, best) {
-        return c;
-    }
-    best
+    if ranks_above(c, best) { c } else { best }
 }
 
 // By votes, verified, anchored, count, and then the smaller bv.
 fn ranks_above(a: Candidate, b: Candidate) -> bool
     ensures { result ≡ outranks a b }
 {
-    if a.votes != b.votes {
-        return b.votes < a.votes;
-    }
-    let av = as_number(a.verified);
-    let bv = as_number(b.verified);
-    if av != bv {
-        return bv < av;
-    }
-    let aa = as_number(a.anchored);
-    let ba = as_number(b.anchored);
-    if aa != ba {
-        return ba < aa;
-    }
-    if a.zeros != b.zeros {
-        return b.zeros < a.zeros;
-    }
-    a.bv < b.bv
-}
-
-fn as_number(b: bool) -> u8
-    ensures { result ≡ flag b }
-{
-    if b { 1 } else { 0 }
+    (b.votes.cmp(&a.votes))
+        .then(b.verified.cmp(&a.verified))
+        .then(b.anchored.cmp(&a.anchored))
+        .then(b.zeros.cmp(&a.zeros))
+        .then(a.bv.cmp(&b.bv))
+        .is_lt()
 }

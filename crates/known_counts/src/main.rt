@@ -7,137 +7,93 @@
 mod making;
 mod telling;
 
-ghost use Rattle.std.specs.Prelude.{◌≡◌, length};
-
 use crate::making::{Family, Rest, make};
-use crate::telling::{Seen, name, noted, nothing, tell};
-use sector::Fit;
+use crate::telling::Seen;
 use std::io;
 
 // Any page's: its sectors have eight offsets.
 const NUMBER: u64 = 1000003;
 
+// For a sector.
+const ROOM: usize = 512;
+
+// What a buffer holds before a scan, and what a blank would leave there.
+const BEFORE: u8 = 165;
+
 fn main(rt: HostRuntime) -> io::Result<()> {
-    sectors(&rt, 512, 511)?;
-    sectors(&rt, 496, 495)?;
+    for n in [512, 496] {
+        sectors(&rt, n)?;
+    }
     every_length(&rt)
 }
 
-fn sectors(rt: &impl Print, n: usize, all_but_one: usize) -> io::Result<()> {
-    counts(rt, n, 248)?;
-    counts(rt, n, 254)?;
-    counts(rt, n, 255)?;
-    counts(rt, n, 256)?;
-    counts(rt, n, 257)?;
-    // Each place is once the one that is off.
-    family(rt, n, all_but_one, false, Rest::Off, n, b"")?;
-    family(rt, n, 256, true, Rest::Random, 64, b", others random")?;
-    family(
-        rt,
-        n,
-        0,
-        false,
-        Rest::Either,
-        64,
-        b", others on it or above",
-    )?;
-    family(
-        rt,
-        n,
-        0,
-        false,
-        Rest::Triangular,
-        64,
-        b", others triangular",
-    )?;
-    family(rt, n, 0, false, Rest::Random, 64, b", others random")
-}
-
-fn counts(rt: &impl Print, n: usize, on: usize) -> io::Result<()> {
-    family(rt, n, on, false, Rest::Off, 64, b"")?;
-    family(rt, n, on, true, Rest::Off, 64, b"")?;
-    family(rt, n, on, false, Rest::Another, 64, b", others on another")?;
-    family(rt, n, on, true, Rest::Another, 64, b", others on another")
-}
-
-fn family(
-    rt: &impl Print,
-    n: usize,
-    on: usize,
-    second: bool,
-    rest: Rest,
-    count: usize,
-    words: &[u8],
-) -> io::Result<()> {
-    let family = Family { on, second, rest };
-    let mut seen = nothing();
-    let mut k: usize = 0;
-    while k < count {
-        seen = one(seen, family, n, k);
-        k += 1;
+fn sectors(rt: &impl Print, n: usize) -> io::Result<()> {
+    for on in [248, 254, 255, 256, 257] {
+        for rest in [Rest::Off, Rest::Another] {
+            for second in [false, true] {
+                family(rt, n, 64, Family { on, second, rest })?;
+            }
+        }
     }
-    name(rt, n, on, second, words)?;
-    tell(rt, count, seen)
+    // Each place is once the one that is off.
+    let all_but_one = Family {
+        on: n.saturating_sub(1),
+        second: false,
+        rest: Rest::Off,
+    };
+    family(rt, n, n, all_but_one)?;
+    let half = Family {
+        on: 256,
+        second: true,
+        rest: Rest::Random,
+    };
+    family(rt, n, 64, half)?;
+    for rest in [Rest::Either, Rest::Triangular, Rest::Random] {
+        family(rt, n, 64, none_on(rest))?;
+    }
+    Ok(())
+}
+
+fn none_on(rest: Rest) -> Family {
+    Family {
+        on: 0,
+        second: false,
+        rest,
+    }
+}
+
+fn family(rt: &impl Print, n: usize, count: usize, family: Family) -> io::Result<()> {
+    let mut seen = Seen::nothing();
+    for k in 0..count {
+        scan(&mut seen, family, n, k);
+    }
+    println!(rt; "{n} bytes, {family}: {count} sectors, {seen}")
 }
 
 fn every_length(rt: &impl Print) -> io::Result<()> {
-    let family = Family {
-        on: 0,
-        second: false,
-        rest: Rest::Random,
-    };
-    let mut seen = nothing();
-    let mut n: usize = 0;
-    while n < 513 {
-        seen = one(seen, family, n, n);
-        n += 1;
+    let family = none_on(Rest::Random);
+    let mut seen = Seen::nothing();
+    for n in 0..=ROOM {
+        scan(&mut seen, family, n, n);
     }
-    name(
-        rt,
-        512,
-        0,
-        false,
-        b", others random, of each length up to this",
-    )?;
-    tell(rt, 513, seen)
+    println!(rt; "512 bytes, {family}, of each length up to this: 513 sectors, {seen}")
 }
 
-fn one(seen: Seen, family: Family, n: usize, k: usize) -> Seen {
-    if n > 512 {
-        return seen;
+// Sector k of a family, of n bytes.
+fn scan(seen: &mut Seen, family: Family, n: usize, k: usize) {
+    if n > ROOM {
+        return;
     }
-    let mut stored = room();
-    let mut quick = room();
-    let mut full = room();
-    make(&mut stored, family, n, k);
+    let mut stored = [0u8; ROOM];
+    let mut quick = [BEFORE; ROOM];
+    let mut full = [BEFORE; ROOM];
+    make(&mut stored[..n], family, k);
     let offset = sector::ap_offset(NUMBER, (k % 8) as u8);
-    both(
-        seen,
-        &stored[0..n],
-        offset,
-        &mut quick[0..n],
-        &mut full[0..n],
-    )
+    both(seen, &stored[..n], offset, &mut quick[..n], &mut full[..n]);
 }
 
-fn both(seen: Seen, stored: &[u8], offset: u8, quick: &mut [u8], full: &mut [u8]) -> Seen {
-    let a = quick::scan_sector(stored, offset, quick);
-    let b = sector::scan_sector(stored, offset, full);
-    let same = same_fit(a, b) && check::same(quick, full);
-    noted(seen, a, quick, same)
-}
-
-fn same_fit(a: Fit, b: Fit) -> bool {
-    a.step == b.step
-        && a.peak == b.peak
-        && a.runner_up == b.runner_up
-        && a.exact == b.exact
-        && a.tied == b.tied
-}
-
-// Room for a sector, with what a blank would leave there. The contract gives the length alone.
-fn room() -> [u8; 512]
-    ensures { 512 ≡ length result }
-{
-    [165u8; 512]
+fn both(seen: &mut Seen, stored: &[u8], offset: u8, quick: &mut [u8], full: &mut [u8]) {
+    let fit = quick::scan_sector(stored, offset, quick);
+    let same = fit == sector::scan_sector(stored, offset, full) && *quick == *full;
+    seen.note(fit, quick, same);
 }

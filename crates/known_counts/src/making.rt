@@ -1,7 +1,6 @@
 // How a sector is made: so many bytes on a line, and what the others are.
-use numbers::low;
-use sector::wrapping_mul_u8;
-use std::num::wrapping_add_u8;
+use std::fmt;
+use std::fmt::{Display, Formatter};
 
 // How many bytes lie on the line, whether every second place comes to it before the others do, and what those are that do not.
 #[derive(Clone, Copy)]
@@ -21,6 +20,24 @@ pub enum Rest {
     Random,
 }
 
+impl Display for Family {
+    fn fmt<W: fmt::Write>(&self, f: &mut Formatter<W>) -> fmt::Result {
+        let second = if self.second {
+            ", every second one"
+        } else {
+            ""
+        };
+        let rest = match self.rest {
+            Rest::Off => "",
+            Rest::Another => ", others on another",
+            Rest::Either => ", others on it or above",
+            Rest::Triangular => ", others triangular",
+            Rest::Random => ", others random",
+        };
+        write!(f, "{} on a line{second}{rest}", self.on)
+    }
+}
+
 // Two lines, and where the random numbers go on.
 #[derive(Clone, Copy)]
 struct Lines {
@@ -31,15 +48,14 @@ struct Lines {
     random: u64,
 }
 
-// Sector k of a family, in the first n bytes.
-pub(crate) fn make(stored: &mut [u8], family: Family, n: usize, k: usize) {
+// Sector k of a family.
+pub(crate) fn make(stored: &mut [u8], family: Family, k: usize) {
+    let n = stored.len();
     let lines = lines_of(k);
     let mut random = lines.random;
-    let mut i: usize = 0;
-    while i < stored.len() {
+    for (i, b) in stored.iter_mut().enumerate() {
         random = next(random);
-        stored[i] = byte_of(family, lines, i, rank(family.second, i, n, k), byte(random));
-        i += 1;
+        *b = byte_of(family, lines, i, rank(family.second, i, n, k), byte(random));
     }
 }
 
@@ -50,7 +66,7 @@ fn lines_of(k: usize) -> Lines {
     let c = next(b);
     Lines {
         first: byte(a),
-        step: low(k % 65536 * 89),
+        step: low(k).wrapping_mul(89),
         other_first: byte(b),
         other_step: byte(c),
         random: c,
@@ -62,13 +78,12 @@ fn byte_of(family: Family, lines: Lines, i: usize, rank: usize, random: u8) -> u
     if rank < family.on {
         return line;
     }
-    let rest = family.rest;
-    match rest {
+    match family.rest {
         // By less than 128, so that under the step 128 away it is off the line too.
-        Rest::Off => wrapping_add_u8(line, random % 127 + 1),
+        Rest::Off => line.wrapping_add(random % 127 + 1),
         Rest::Another => at(lines.other_first, lines.other_step, i),
-        Rest::Either => wrapping_add_u8(line, random % 2),
-        Rest::Triangular => wrapping_add_u8(line, triangular(i)),
+        Rest::Either => line.wrapping_add(random % 2),
+        Rest::Triangular => line.wrapping_add(triangular(i)),
         Rest::Random => random,
     }
 }
@@ -90,15 +105,15 @@ fn rank(second: bool, i: usize, n: usize, k: usize) -> usize {
 }
 
 fn at(first: u8, step: u8, i: usize) -> u8 {
-    wrapping_add_u8(first, wrapping_mul_u8(low(i), step))
+    first.wrapping_add(low(i).wrapping_mul(step))
 }
 
 // i (i + 1) / 2.
 fn triangular(i: usize) -> u8 {
     if i % 2 == 0 {
-        wrapping_mul_u8(low(i / 2), wrapping_add_u8(low(i), 1))
+        low(i / 2).wrapping_mul(low(i).wrapping_add(1))
     } else {
-        wrapping_mul_u8(low(i), wrapping_add_u8(low(i / 2), 1))
+        low(i).wrapping_mul(low(i / 2).wrapping_add(1))
     }
 }
 
@@ -109,4 +124,8 @@ fn next(random: u64) -> u64 {
 
 fn byte(random: u64) -> u8 {
     (random / 256 % 256) as u8
+}
+
+fn low(i: usize) -> u8 {
+    (i % 256) as u8
 }

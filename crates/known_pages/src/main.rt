@@ -8,86 +8,40 @@
 // all hexadecimal, with a blank before each part. The bytes are those of the seed (describe.rt), written over by the parts.
 #![tactic(auto)]
 
-ghost use Rattle.std.specs.Prelude.{◌≤◌, ◌≡◌, length};
-ghost use Rattle.std.specs.Io.{ReadsAtMost};
-
 mod describe;
 mod show;
 
 use describe::{fill, number, patch};
+use reading::read_full;
 use std::io;
-use std::io::Read;
 
 fn main(rt: HostRuntime) -> io::Result<()> {
     show::type_bytes(&rt)?;
     show::variants(&rt)?;
     let mut text = [0u8; 65536];
     let n = read_full(&mut rt.stdin(), &mut text)?;
-    take_lines(&rt, &text[..n])
-}
-
-// Reads until the buffer is full or the input ends, and says how many bytes were put at its start.
-fn read_full(input: &mut impl Read, buffer: &mut [u8]) -> io::Result<usize>
-    ensures { ReadsAtMost result buffer.new }
-{
-    let mut done: usize = 0;
-    while done < buffer.len() {
-        let n = input.read(&mut buffer[done..])?;
-        if n == 0 {
-            break;
-        }
-        done += n;
-    }
-    Ok(done)
-}
-
-fn take_lines(rt: &impl Print, text: &[u8]) -> io::Result<()> {
-    let mut at: usize = 0;
-    while at < text.len() {
-        let end = line_end(text, at);
-        take_line(rt, &text[at..end])?;
-        at = end + 1;
+    for line in text[..n].split(|b| *b == b'\n') {
+        take_line(&rt, line)?;
     }
     Ok(())
 }
 
-// The place of the next newline, or of the end.
-fn line_end(text: &[u8], from: usize) -> usize
-    requires { from ≤ length text.now }
-    ensures { (from ≤ result) × (result ≤ length text.now) }
-{
-    let mut at = from;
-    while at < text.len() {
-        if text[at] == b'\n' {
-            return at;
-        }
-        at += 1;
-    }
-    at
-}
-
 fn take_line(rt: &impl Print, line: &[u8]) -> io::Result<()> {
-    if line.len() == 0 {
-        return Ok(());
+    match line.first() {
+        None => Ok(()),
+        Some(b'#') => {
+            rt.write_all(line)?;
+            rt.write_all(b"\n")
+        },
+        Some(_) => take_page(rt, line),
     }
-    if line[0] == b'#' {
-        rt.write_all(line)?;
-        return rt.write_all(b"\n");
-    }
-    let mut room = longest();
-    take_page(rt, line, &mut room)
 }
 
-// One byte more than a page has.
-fn longest() -> [u8; 4097]
-    ensures { length result ≡ 4097 }
-{
-    [0u8; 4097]
-}
-
-fn take_page(rt: &impl Print, line: &[u8], room: &mut [u8]) -> io::Result<()> {
-    fill(room, number(line, 22, 8));
-    patch(line, 30, room);
+fn take_page(rt: &impl Print, line: &[u8]) -> io::Result<()> {
+    // One byte more than a page has.
+    let mut room = [0u8; 4097];
+    fill(&mut room, number(line, 22, 8));
+    patch(&mut room, &line[line.len().min(30)..]);
     let len = number(line, 17, 4) as usize;
     if len <= room.len() {
         show::findings(rt, number(line, 0, 16), &room[..len])?;

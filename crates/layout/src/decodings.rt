@@ -1,53 +1,56 @@
 // A decoding: the choice, eight fits, how many warnings, ten places for them.
-ghost use Rattle.numbers.specs.Writes.{Wrote};
 ghost use Rattle.fields.specs.Fields.{Put};
-ghost use Rattle.layout.specs.Layouts.{choice_fields, decoding_bytes};
+ghost use Rattle.layout.specs.Layouts.{choice_fields, decoding_size, decoding_fields};
+ghost use Rattle.layout.specs.Sizes.{decoding-size};
 
-use choice::Choice;
-use numbers::{put_size8, put_u8};
+use crate::whole::Layout;
+use choice::{Choice, Refused};
+use numbers::{Number, put_zeros};
 use parts::{
-    ANSWER_SIZE, BVS_SIZE, FITS_SIZE, GROUND_SIZE, WARNING_SIZE, put_answer, put_bvs, put_fits,
-    put_grounds, put_warnings,
+    ANSWER_SIZE, BVS_SIZE, FITS_SIZE, GROUND_SIZE, WARNING_SIZE, put_all, put_answer, put_list,
 };
 use verdict::Decoding;
 
-const CHOICE_SIZE: usize = ANSWER_SIZE + BVS_SIZE + 4 + 4 * GROUND_SIZE;
+const CHOICE_SIZE: usize = BVS_SIZE + 4 + 4 * GROUND_SIZE;
 
-pub const DECODING_SIZE: usize = CHOICE_SIZE + FITS_SIZE + 1 + 10 * WARNING_SIZE;
+const DECODED_SIZE: usize = CHOICE_SIZE + FITS_SIZE + 1 + 10 * WARNING_SIZE;
 
-pub fn write_decoding(out: &mut [u8], d: Decoding) -> usize
-    ensures { Wrote out.old 0 (decoding_bytes d) out.new result }
-{
-    if out.len() < DECODING_SIZE {
-        return 0;
+pub const DECODING_SIZE: usize = ANSWER_SIZE + DECODED_SIZE;
+
+// Beside a refusal stand its candidates, and zeros.
+impl Layout for Result<Decoding, Refused> {
+    ghost SIZE = { decoding_size };
+
+    const SIZE: usize = DECODING_SIZE;
+
+    ghost fields = { decoding_fields };
+
+    ghost sized = { decoding-size };
+
+    fn put(&self, out: &mut [u8], at: usize) -> usize {
+        match self {
+            Ok(found) => {
+                let at = put_answer(out, at, None);
+                let at = put_choice(out, at, found.choice);
+                let at = put_all(out, at, &found.fits);
+                put_list(out, at, &found.warnings)
+            }
+            Err(refused) => {
+                let at = put_answer(out, at, Some(refused.refusal));
+                let at = put_list(out, at, &refused.candidates);
+                put_zeros(out, at, DECODED_SIZE - BVS_SIZE)
+            }
+        }
     }
-    let choice = d.choice;
-    let fits = d.fits;
-    let warnings = d.warnings;
-    let items = warnings.items;
-    let at = put_choice(out, 0, choice);
-    let at = put_fits(out, at, fits);
-    let at = put_size8(out, at, warnings.len);
-    put_warnings(out, at, items)
 }
 
-// The answer part, values of bv, then bv, source, confidence, how much evidence, four places for it.
+// Values of bv, then bv, source, confidence, how much evidence, four places for it.
 fn put_choice(out: &mut [u8], at: usize, c: Choice) -> usize
     ensures { Put out.old at (choice_fields c) out.new result }
 {
-    let x = c.answer;
-    let source = c.source;
-    let confidence = c.confidence;
-    let group = c.group;
-    let grounds = c.grounds;
-    let items = grounds.items;
-    let from = source.number();
-    let trust = confidence.number();
-    let at = put_answer(out, at, x);
-    let at = put_bvs(out, at, group);
-    let at = put_u8(out, at, c.bv);
-    let at = put_u8(out, at, from);
-    let at = put_u8(out, at, trust);
-    let at = put_size8(out, at, grounds.len);
-    put_grounds(out, at, items)
+    let at = put_list(out, at, &c.others);
+    let at = c.bv.put(out, at);
+    let at = c.source.number().put(out, at);
+    let at = c.confidence.number().put(out, at);
+    put_list(out, at, &c.grounds)
 }

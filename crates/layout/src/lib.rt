@@ -5,10 +5,12 @@
 mod decodings;
 mod pages;
 mod summaries;
+mod whole;
 
-pub use decodings::{DECODING_SIZE, write_decoding};
-pub use pages::{SUPERBLOCK_SIZE, TRAILER_SIZE, write_integrity, write_superblock, write_trailer};
-pub use summaries::{SCAN_SIZE, write_replacement, write_scan};
+pub use decodings::DECODING_SIZE;
+pub use pages::{SUPERBLOCK_SIZE, TRAILER_SIZE};
+pub use summaries::{Replacement, SCAN_SIZE};
+pub use whole::{Layout, Record, write};
 
 // The version of the layouts and of what the C functions take: any change of one is a change of this.
 pub const LAYOUT_VERSION: u32 = 4;

@@ -1,81 +1,84 @@
 // Integrity, trailer and superblock.
 ghost use Rattle.std.specs.Prelude.{◌≡◌};
-ghost use Rattle.numbers.specs.Writes.{Wrote};
-ghost use Rattle.fields.specs.Fields.{Put};
-ghost use Rattle.layout.specs.Layouts.{integrity_bytes, type_number, record_fields, trailer_bytes, header_fields, superblock_bytes};
+ghost use Rattle.parts.specs.Parts.{answer_size, answer_fields};
+ghost use Rattle.parts.proofs.Sizes.{answer-size};
+ghost use Rattle.layout.specs.Layouts.{type_number, record_fields, record_size, header_fields, header_size};
+ghost use Rattle.layout.specs.Sizes.{record-size, record-small, header-size, header-small};
 
-use answers::Answer;
-use numbers::{put_bool, put_u8, put_u16, put_u32};
-use page::{PageTrailer, Superblock, SuperblockAnswer, TrailerAnswer};
+use crate::whole::{Layout, Record};
+use answers::Refusal;
+use numbers::Number;
+use page::{PageTrailer, Superblock};
 use page_type::PageType;
 use parts::{ANSWER_SIZE, put_answer};
 
-pub const TRAILER_SIZE: usize = ANSWER_SIZE + 13;
+const RECORD_SIZE: usize = 13;
 
-pub const SUPERBLOCK_SIZE: usize = ANSWER_SIZE + 23;
+const HEADER_SIZE: usize = 23;
 
-// The answer part alone.
-pub fn write_integrity(out: &mut [u8], x: Answer) -> usize
-    ensures { Wrote out.old 0 (integrity_bytes x) out.new result }
-{
-    if out.len() < ANSWER_SIZE {
-        return 0;
+pub const TRAILER_SIZE: usize = ANSWER_SIZE + RECORD_SIZE;
+
+pub const SUPERBLOCK_SIZE: usize = ANSWER_SIZE + HEADER_SIZE;
+
+// Of integrity, the answer part alone.
+impl Layout for Option<Refusal> {
+    ghost SIZE = { answer_size };
+
+    const SIZE: usize = ANSWER_SIZE;
+
+    ghost fields = { answer_fields };
+
+    ghost sized = { answer-size };
+
+    fn put(&self, out: &mut [u8], at: usize) -> usize {
+        put_answer(out, at, *self)
     }
-    put_answer(out, 0, x)
 }
 
-pub fn write_trailer(out: &mut [u8], t: TrailerAnswer) -> usize
-    ensures { Wrote out.old 0 (trailer_bytes t) out.new result }
-{
-    if out.len() < TRAILER_SIZE {
-        return 0;
+impl Record for PageTrailer {
+    ghost SIZE = { record_size };
+
+    const SIZE: usize = RECORD_SIZE;
+
+    ghost fields = { record_fields };
+
+    ghost sized = { record-size };
+
+    ghost small = { record-small };
+
+    fn put(&self, out: &mut [u8], at: usize) -> usize {
+        let at = self.row_count.put(out, at);
+        let at = self.page_type.as_byte().put(out, at);
+        let at = type_number(self.page_type).put(out, at);
+        let at = self.case_variant.put(out, at);
+        let at = self.lsn.put(out, at);
+        let at = self.crc.put(out, at);
+        self.reserved_zero.put(out, at)
     }
-    let x = t.answer;
-    let trailer = t.trailer;
-    let at = put_answer(out, 0, x);
-    put_record(out, at, trailer)
 }
 
-pub fn write_superblock(out: &mut [u8], s: SuperblockAnswer) -> usize
-    ensures { Wrote out.old 0 (superblock_bytes s) out.new result }
-{
-    if out.len() < SUPERBLOCK_SIZE {
-        return 0;
+impl Record for Superblock {
+    ghost SIZE = { header_size };
+
+    const SIZE: usize = HEADER_SIZE;
+
+    ghost fields = { header_fields };
+
+    ghost sized = { header-size };
+
+    ghost small = { header-small };
+
+    fn put(&self, out: &mut [u8], at: usize) -> usize {
+        let at = self.flags_06.put(out, at);
+        let at = self.flags_06_variant_bits.put(out, at);
+        let at = self.current_lsn.put(out, at);
+        let at = self.format.major.put(out, at);
+        let at = self.format.a.put(out, at);
+        let at = self.format.b.put(out, at);
+        let at = self.magic.put(out, at);
+        let at = self.page_count_hint.put(out, at);
+        self.sa_marker_present.put(out, at)
     }
-    let x = s.answer;
-    let superblock = s.superblock;
-    let at = put_answer(out, 0, x);
-    put_header(out, at, superblock)
-}
-
-fn put_record(out: &mut [u8], at: usize, t: PageTrailer) -> usize
-    ensures { Put out.old at (record_fields t) out.new result }
-{
-    let page_type = t.page_type;
-    let letter = page_type.as_byte();
-    let kind = type_number(page_type);
-    let at = put_u8(out, at, t.row_count);
-    let at = put_u8(out, at, letter);
-    let at = put_u8(out, at, kind);
-    let at = put_bool(out, at, t.case_variant);
-    let at = put_u32(out, at, t.lsn);
-    let at = put_u32(out, at, t.crc);
-    put_bool(out, at, t.reserved_zero)
-}
-
-fn put_header(out: &mut [u8], at: usize, s: Superblock) -> usize
-    ensures { Put out.old at (header_fields s) out.new result }
-{
-    let format = s.format;
-    let at = put_u8(out, at, s.flags_06);
-    let at = put_u8(out, at, s.flags_06_variant_bits);
-    let at = put_u32(out, at, s.current_lsn);
-    let at = put_u32(out, at, format.major);
-    let at = put_u16(out, at, format.a);
-    let at = put_u16(out, at, format.b);
-    let at = put_u32(out, at, s.magic);
-    let at = put_u32(out, at, s.page_count_hint);
-    put_bool(out, at, s.sa_marker_present)
 }
 
 fn type_number(t: PageType) -> u8

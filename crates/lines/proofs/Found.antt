@@ -1,7 +1,7 @@
 -- The next line that is found, and what is kept of one that goes on. Assumes nothing.
 use Prim.Native.Nat.{ℕ, ◌+◌, ◌-◌, ◌≤◌, ◌<◌, min}
-use mathlib.Core.Path.{◌≡◌, refl, sym, ap, ◌∙◌}
-use mathlib.Core.Bool.{Bool, true, false}
+use mathlib.Core.Path.{◌≡◌, refl, sym, ap, ap₂, ◌∙◌}
+use mathlib.Core.Bool.{true, false}
 use mathlib.Core.List.{List, [], ◌++◌}
 use native.Mathlib.Omega.{arith}
 use borrow.Author.Tests.{leb-true, leb-false, lt-ltb, le-ltb, eq-eqb, ne_eqb}
@@ -15,7 +15,7 @@ use Rattle.lists.proofs.Over.{over-length, over-up-to, over_none}
 use Rattle.numbers.specs.Writes.{Wrote}
 use Rattle.numbers.proofs.Kept.{kept-room}
 use Rattle.lines.specs.Next.{line_end, has_ended, part_at, fitting, kept_in, kept_number, in_block, next_of, line_after}
-use Rattle.lines.specs.declared.next.Next.{Next}
+use Rattle.lines.specs.declared.next.Next.TheVariants.{Here, Begun, Unfinished}
 use Rattle.lines.proofs.Newlines.{end_none, end_below}
 
 -- what `keep` puts behind n characters: nothing past the end, else the lesser of the part and the room
@@ -58,35 +58,40 @@ module _ (line : List ℕ) (n : ℕ) (part : List ℕ) where
 
 -- what `next_line` answers: a line in the block, or what is kept now
 module _ (line : List ℕ) (kept : ℕ) (block : List ℕ) (from end : ℕ) (e : end ≡ line_end block from) where
-  pub next_here : end < length block → kept ≡ 0
-      → (◌≡◌ {A = Next} (record { ended = true; end = end; len = 0 }) (next_of line kept block from)) × (line ≡ line_after line kept block from)
+  pub next_here : end < length block → kept ≡ 0 → (Here end ≡ next_of line kept block from) × (line ≡ line_after line kept block from)
   unfolding next_of line_after
   next_here h z =
       let t : has_ended block from ≡ true = lt-ltb (line_end block from) (length block) (omega arith) in
       let k : in_block kept block from ≡ true = and_yes _ _ t (eq-eqb _ _ z) in
-      (rw (k, t, ← e), rw k)
+      (rw (t, eq-eqb _ _ z, e), rw k)
 
   module _ (len m : ℕ) (line' : List ℕ) (w : (len ≡ kept_number line kept (take m (drop from block))) × (line' ≡ kept_in line kept (take m (drop from block)))) where
-    next-kept : (b : Bool) → has_ended block from ≡ b → in_block kept block from ≡ false → m ≡ end - from
-        → (◌≡◌ {A = Next} (record { ended = b; end = end; len = len }) (next_of line kept block from)) × (line' ≡ line_after line kept block from)
-    unfolding next_of line_after
-    next-kept b t kb f =
-        let same : take m (drop from block) ≡ part_at block from = ap (λ (k : ℕ). take k (drop from block)) (f ∙ ap (λ (k : ℕ). k - from) e) in
-        (rw (kb, t, ← e) (rw (w.0, f)), rw kb (w.1 ∙ ap (kept_in line kept) same))
+    -- the part that was kept is what the block has of the line
+    module _ (f : m ≡ end - from) where
+      same : take m (drop from block) ≡ part_at block from
+      same = ap (λ (k : ℕ). take k (drop from block)) (f ∙ ap (λ (k : ℕ). k - from) e)
 
-    pub next-begun : end < length block → (kept ≡ 0 → ⊥) → m ≡ end - from
-        → (◌≡◌ {A = Next} (record { ended = true; end = end; len = len }) (next_of line kept block from)) × (line' ≡ line_after line kept block from)
-    next-begun h z f = next-kept true (lt-ltb (line_end block from) (length block) (omega arith)) (and-no-right (has_ended block from) (eqb kept 0) (ne_eqb kept 0 z)) f
+      len_is : len ≡ kept_number line kept (part_at block from)
+      len_is = w.0 ∙ ap (kept_number line kept) same
 
-    pub next-rest : length block ≤ end → from ≤ length block → m ≡ length block - from
-        → (◌≡◌ {A = Next} (record { ended = false; end = end; len = len }) (next_of line kept block from)) × (line' ≡ line_after line kept block from)
-    next-rest h k f =
-        let t : has_ended block from ≡ false = le-ltb (line_end block from) (length block) (omega arith) in
-        next-kept false t (and-no-left _ _ t) (omega (arith, end_below block from k))
+      after_is : in_block kept block from ≡ false → line' ≡ line_after line kept block from
+      unfolding line_after
+      after_is k = rw k (w.1 ∙ ap (kept_in line kept) same)
 
-  pub next_past : length block ≤ from
-      → (◌≡◌ {A = Next} (record { ended = false; end = end; len = kept }) (next_of line kept block from)) × (line ≡ line_after line kept block from)
+    pub next-begun : end < length block → (kept ≡ 0 → ⊥) → m ≡ end - from → (Begun end len ≡ next_of line kept block from) × (line' ≡ line_after line kept block from)
+    unfolding next_of
+    next-begun h z f =
+        let t : has_ended block from ≡ true = lt-ltb (line_end block from) (length block) (omega arith) in
+        (rw (t, ne_eqb kept 0 z) (ap₂ Begun e (len_is f)), after_is f (and-no-right (has_ended block from) (eqb kept 0) (ne_eqb kept 0 z)))
+
+    rest_is : has_ended block from ≡ false → m ≡ end - from → (Unfinished len ≡ next_of line kept block from) × (line' ≡ line_after line kept block from)
+    unfolding next_of
+    rest_is t f = (rw t (ap Unfinished (len_is f)), after_is f (and-no-left _ _ t))
+
+    pub next-rest : length block ≤ end → from ≤ length block → m ≡ length block - from → (Unfinished len ≡ next_of line kept block from) × (line' ≡ line_after line kept block from)
+    next-rest h k f = rest_is (le-ltb (line_end block from) (length block) (omega arith)) (omega (arith, end_below block from k))
+
+  pub next_past : length block ≤ from → (Unfinished kept ≡ next_of line kept block from) × (line ≡ line_after line kept block from)
   next_past h =
       let z : end ≡ from = e ∙ end_none block from h in
-      let t : has_ended block from ≡ false = le-ltb (line_end block from) (length block) (omega arith) in
-      next-kept kept 0 line (keep-nothing line kept [] refl) false t (and-no-left _ _ t) (omega arith)
+      rest_is kept 0 line (keep-nothing line kept [] refl) (le-ltb (line_end block from) (length block) (omega arith)) (omega arith)

@@ -4,6 +4,7 @@ use Rattle.lists.specs.Cases.{pick}
 use Rattle.lists.specs.Pieces.{over}
 use Rattle.lines.specs.Input.{up_to}
 use Rattle.lines.specs.declared.next.Next.{Next}
+use Rattle.lines.specs.declared.next.Next.TheVariants.{Here, Begun, Unfinished}
 
 -- where the line ends that stands in a block from a place on: at the next newline, or where the block does
 unfoldable pub line_end : List ℕ → ℕ → ℕ
@@ -32,15 +33,8 @@ in_block kept block from = has_ended block from && eqb kept 0
 
 unfoldable pub next_of : List ℕ → ℕ → List ℕ → ℕ → Next
 next_of line kept block from =
-    record {
-      ended = has_ended block from;
-      end = line_end block from;
-      len = pick (in_block kept block from) 0 (kept_number line kept (part_at block from));
-    }
+    pick (has_ended block from) (pick (eqb kept 0) (Here (line_end block from)) (Begun (line_end block from) (kept_number line kept (part_at block from))))
+    (Unfinished (kept_number line kept (part_at block from)))
 
 unfoldable pub line_after : List ℕ → ℕ → List ℕ → ℕ → List ℕ
 line_after line kept block from = pick (in_block kept block from) line (kept_in line kept (part_at block from))
-
--- the line that has ended, or what is kept of it
-abbrev pub found : List ℕ → List ℕ → ℕ → Next → List ℕ
-found line block from next = pick (eqb next.len 0) (take (next.end - from) (drop from block)) (take next.len line)

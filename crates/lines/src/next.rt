@@ -1,17 +1,18 @@
 // The next line, and what is kept of one that goes on.
-ghost use Rattle.std.specs.Prelude.{◌≡◌, min};
+ghost use Rattle.std.specs.Prelude.{◌≡◌};
 ghost use Rattle.lines.specs.Next.{kept_in, kept_number, next_of, line_after};
 
 use crate::ends::line_end;
 use numbers::put_bytes;
 
-// A line that has ended, at the place `end`: it stands in the block where `len` is 0, else its first `len` characters stand in the line buffer.
-// Or no line has ended, and `len` characters are kept of an unfinished one.
-#[derive(Clone, Copy)]
-pub struct Next {
-    pub ended: bool,
-    pub end: usize,
-    pub len: usize,
+#[derive(Clone, Copy, PartialEq, Eq)]
+pub enum Next {
+    // A line has ended at this place, and stands in the block alone.
+    Here { end: usize },
+    // One that began before has ended at this place: its first characters, so many, stand in the line buffer.
+    Begun { end: usize, kept: usize },
+    // None has ended: so many characters are kept of an unfinished one.
+    Unfinished { kept: usize },
 }
 
 // How far a program's step came: the place in the block, what is kept of a line from before that place, and what waits in the output.
@@ -29,33 +30,17 @@ pub fn next_line(line: &mut [u8], kept: usize, block: &[u8], from: usize) -> Nex
 {
     let end = line_end(block, from);
     if block.len() <= from {
-        return Next {
-            ended: false,
-            end,
-            len: kept,
-        };
+        return Next::Unfinished { kept };
     }
     if block.len() <= end {
-        let len = keep(line, kept, &block[from..]);
-        return Next {
-            ended: false,
-            end,
-            len,
-        };
+        let kept = keep(line, kept, &block[from..]);
+        return Next::Unfinished { kept };
     }
     if kept == 0 {
-        return Next {
-            ended: true,
-            end,
-            len: 0,
-        };
+        return Next::Here { end };
     }
-    let len = keep(line, kept, &block[from..end]);
-    Next {
-        ended: true,
-        end,
-        len,
-    }
+    let kept = keep(line, kept, &block[from..end]);
+    Next::Begun { end, kept }
 }
 
 // Puts what fits of `part` behind the `kept` characters of a line, and answers how many are kept then.
@@ -66,15 +51,6 @@ pub fn keep(line: &mut [u8], kept: usize, part: &[u8]) -> usize
     if line.len() < kept {
         return kept;
     }
-    let n = lesser(part.len(), line.len() - kept);
-    put_bytes(line, kept, &part[0..n])
-}
-
-fn lesser(a: usize, b: usize) -> usize
-    ensures { result ≡ min a b }
-{
-    if a < b {
-        return a;
-    }
-    b
+    let n = part.len().min(line.len() - kept);
+    put_bytes(line, kept, &part[..n])
 }

@@ -7,6 +7,7 @@ ghost use Rattle.lumeviqo.specs.Calls.{decoded, decoded_from, supplied, supplied
 use answers::Options;
 use layout::DECODING_SIZE;
 
+// Each of the four asks for its room itself: of what a closure that is passed on writes to `out`, a proof would know nothing.
 pub fn lumeviqo_decode(
     number: u64,
     stored: &[u8],
@@ -26,7 +27,7 @@ pub fn lumeviqo_decode(
     }
     let options = Options::new(leniency, t, limit);
     let found = decode::decode_page(number, stored, anchors, options, out);
-    layout::write_decoding(answer, found)
+    layout::write(answer, &found)
 }
 
 pub fn lumeviqo_decode_summary(
@@ -50,13 +51,12 @@ pub fn lumeviqo_decode_summary(
     if answer.len() < DECODING_SIZE {
         return 0;
     }
-    if !parts::fits_lent(fits) {
+    let Some(lent) = parts::fits_lent(fits) else {
         return 0;
-    }
+    };
     let options = Options::new(leniency, t, limit);
-    let lent = parts::fits_in(fits);
     let found = decode::decode_summary(number, stored, lent, shifted, anchors, options, out);
-    layout::write_decoding(answer, found)
+    layout::write(answer, &found)
 }
 
 pub fn lumeviqo_decode_supplied(
@@ -78,7 +78,7 @@ pub fn lumeviqo_decode_supplied(
     }
     let options = Options::new(leniency, t, limit);
     let found = decode::decode_with_bv(number, bv, stored, options, out);
-    layout::write_decoding(answer, found)
+    layout::write(answer, &found)
 }
 
 pub fn lumeviqo_decode_supplied_summary(
@@ -101,11 +101,10 @@ pub fn lumeviqo_decode_supplied_summary(
     if answer.len() < DECODING_SIZE {
         return 0;
     }
-    if !parts::fits_lent(fits) {
+    let Some(lent) = parts::fits_lent(fits) else {
         return 0;
-    }
+    };
     let options = Options::new(leniency, t, limit);
-    let lent = parts::fits_in(fits);
     let found = decode::decode_summary_with_bv(number, bv, stored, lent, shifted, options, out);
-    layout::write_decoding(answer, found)
+    layout::write(answer, &found)
 }

@@ -27,9 +27,8 @@ pub fn lumeviqo_row_count(
     ensures { Wrote answer.old 0 (row_count_told number plain.now leniency limit) answer.new result }
 {
     let options = Options::new(leniency, Options::MIN_TRAILER_COUNT, limit);
-    let found = rows::rows_counted(number, plain, options);
-    let x = found.answer;
-    row_layout::write_row_count(answer, x, found.rows)
+    let counted = rows::rows_counted(number, plain, options);
+    row_layout::write_row_count(answer, counted)
 }
 
 pub fn lumeviqo_row(
@@ -44,9 +43,7 @@ pub fn lumeviqo_row(
 {
     let options = Options::new(leniency, Options::MIN_TRAILER_COUNT, limit);
     let found = rows::row_found(number, plain, options, row);
-    let x = found.answer;
-    let span = found.span;
-    row_layout::write_row(answer, x, span)
+    row_layout::write_row(answer, found)
 }
 
 pub fn lumeviqo_rows(

@@ -24,27 +24,23 @@ pub fn lumeviqo_crc32(bytes: &[u8]) -> u32
 pub fn lumeviqo_trailer(stored: &[u8], answer: &mut [u8]) -> usize
     ensures { Wrote answer.old 0 (trailer_bytes (trailer_answer stored.now)) answer.new result }
 {
-    let found = page::PageTrailer::parse(stored);
-    layout::write_trailer(answer, found)
+    layout::write(answer, &page::PageTrailer::parse(stored))
 }
 
 pub fn lumeviqo_integrity(number: u64, stored: &[u8], answer: &mut [u8]) -> usize
     ensures { Wrote answer.old 0 (integrity_bytes (integrity_of number stored.now)) answer.new result }
 {
-    let found = page::check_integrity(number, stored);
-    layout::write_integrity(answer, found)
+    layout::write(answer, &page::check_integrity(number, stored).err())
 }
 
 pub fn lumeviqo_superblock(stored: &[u8], answer: &mut [u8]) -> usize
     ensures { Wrote answer.old 0 (superblock_bytes (superblock_answer stored.now)) answer.new result }
 {
-    let found = page::Superblock::parse(stored);
-    layout::write_superblock(answer, found)
+    layout::write(answer, &page::Superblock::parse(stored))
 }
 
 pub fn lumeviqo_superblock_checked(stored: &[u8], answer: &mut [u8]) -> usize
     ensures { Wrote answer.old 0 (superblock_bytes (checked_superblock stored.now)) answer.new result }
 {
-    let found = page::Superblock::parse_checked(stored);
-    layout::write_superblock(answer, found)
+    layout::write(answer, &page::Superblock::parse_checked(stored))
 }

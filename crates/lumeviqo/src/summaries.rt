@@ -1,7 +1,7 @@
 // Scan and replacement.
 ghost use Rattle.lumeviqo.specs.Calls.{ScanCall, ReplaceCall};
 
-use layout::SCAN_SIZE;
+use layout::{Replacement, SCAN_SIZE};
 
 pub fn lumeviqo_scan(number: u64, stored: &[u8], shifted: &mut [u8], answer: &mut [u8]) -> usize
     ensures { ScanCall number stored.now
@@ -11,7 +11,7 @@ pub fn lumeviqo_scan(number: u64, stored: &[u8], shifted: &mut [u8], answer: &mu
         return 0;
     }
     let found = summary::scan_page(number, stored, shifted);
-    layout::write_scan(answer, found)
+    layout::write(answer, &found)
 }
 
 pub fn lumeviqo_replace(
@@ -29,10 +29,9 @@ pub fn lumeviqo_replace(
     if answer.len() < SCAN_SIZE {
         return 0;
     }
-    if !parts::fits_lent(fits) {
+    let Some(lent) = parts::fits_lent(fits) else {
         return 0;
-    }
-    let lent = parts::fits_in(fits);
-    let found = summary::replace_sector(number, sector, bytes, stored, shifted, lent);
-    layout::write_replacement(answer, found)
+    };
+    let made = summary::replace_sector(number, sector, bytes, stored, shifted, lent);
+    layout::write(answer, &Replacement { made, lent })
 }

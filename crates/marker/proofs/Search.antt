@@ -1,61 +1,111 @@
 -- Laws of the marker search, and what it finds: a place where every byte of the marker stands. Assumes nothing.
-use Prim.Native.Nat.{ℕ, zero, suc, ◌+◌, ◌-◌, ◌≤◌, ◌<◌}
-use mathlib.Core.Path.{◌≡◌, refl, sym, ap, ◌∙◌}
+use Prim.Native.Nat.{ℕ, zero, suc, ◌+◌, ◌≤◌, ◌<◌}
+use mathlib.Core.Path.{◌≡◌, refl, sym, ap, ap₂, subst, ◌∙◌}
 use mathlib.Core.Bool.{Bool, true, false}
 use mathlib.Core.List.{List, [], ◌∷◌}
 use mathlib.Core.Logic.{◌↔◌}
 use native.Mathlib.Nat.{not-suc-le-zero, le_of_suc-le-suc}
-use native.Mathlib.Numerals.{add-one}
 use native.Mathlib.Omega.{arith}
-use borrow.Author.Tests.{eq-eqb, ne_eqb, eqb-true}
+use borrow.Author.Tests.{eq-eqb, eqb-true}
 use lib.Dec.{eqb}
-use lib.ListN.{length, get_or, take, drop, length-drop, drop_of_length-le}
-use lib.Seq.{drop-cons, drop-length, take_all}
+use lib.ListN.{length, get_or, take, drop}
+use denote.Ref.{Bor}
+use denote.Param.Members.{Mut}
+use Rattle.std.specs.Fn.{Called}
+use Rattle.std.specs.Iterator.{Yields}
+use Rattle.std.specs.List.{FoldsTo}
+use Rattle.std.specs.Option.{MatchOption}
+use Rattle.std.specs.Prelude.{Option, Some, None}
 use Rattle.lists.specs.Cases.{pick}
 use Rattle.lists.proofs.Picks.{never_both}
 use Rattle.marker.specs.Marker.{starts_with, occurs_in}
 
--- the marker is held against the bytes from its front
-module _ (m s : List ℕ) (i : ℕ) where
-  pub starts-all : i ≡ length m → starts_with (drop i m) (drop i s) ≡ true
-  unfolding starts_with
-  starts-all e = rw (e, drop-length)
+-- bytes begin with m where their first bytes are those of m, and there alone
+starts-take : (m s : List ℕ) → take (length m) s ≡ m → starts_with m s ≡ true
+unfolding starts_with
+starts-take [] s e = refl
+starts-take (x ∷ m) [] e = absurd (omega (arith, ap length e))
+starts-take (x ∷ m) (y ∷ s) e =
+    let first : x ≡ y = cc in
+    let others : take (length m) s ≡ m = cc in
+    rw (eq-eqb x y first) (starts-take m s others)
 
-  module _ (h : i < length m) where
-    pub starts-short : length s ≤ i → starts_with (drop i m) (drop i s) ≡ false
-    unfolding starts_with
-    starts-short k = rw (drop-cons m i 0 h, drop_of_length-le s k)
+take-starts : (m s : List ℕ) → starts_with m s ≡ true → take (length m) s ≡ m
+unfolding starts_with
+take-starts [] s e = refl
+take-starts (x ∷ m) [] e = absurd (never_both refl e)
+take-starts (x ∷ m) (y ∷ s) e = go (eqb x y) refl (take-starts m s) e
+  where
+    go : (t : Bool) → eqb x y ≡ t → (starts_with m s ≡ true → take (length m) s ≡ m) → pick t (starts_with m s) false ≡ true → y ∷ take (length m) s ≡ x ∷ m
+    go true q ih r = ap₂ (λ (z : ℕ) (l : List ℕ). z ∷ l) (sym (eqb-true x y q)) (ih r)
+    go false q ih r = absurd (never_both refl r)
 
-    pub starts-differ : i < length s → (get_or s i 0 ≡ get_or m i 0 → ⊥) → starts_with (drop i m) (drop i s) ≡ false
-    unfolding starts_with
-    starts-differ k n = rw (drop-cons m i 0 h, drop-cons s i 0 k, ne_eqb (get_or m i 0) (get_or s i 0) (λ e. n (sym e)))
+starts-short : (m s : List ℕ) → length s < length m → starts_with m s ≡ false
+unfolding starts_with
+starts-short [] s h = absurd (omega arith)
+starts-short (x ∷ m) [] h = refl
+starts-short (x ∷ m) (y ∷ s) h = go (eqb x y) (starts-short m s (omega arith))
+  where
+    go : (t : Bool) → starts_with m s ≡ false → pick t (starts_with m s) false ≡ false
+    go true e = e
+    go false e = refl
 
-    pub starts-same : i < length s → get_or s i 0 ≡ get_or m i 0 → starts_with (drop i m) (drop i s) ≡ starts_with (drop (i + 1) m) (drop (i + 1) s)
-    unfolding starts_with
-    starts-same k e = rw (drop-cons m i 0 h, drop-cons s i 0 k, eq-eqb (get_or m i 0) (get_or s i 0) (sym e), add-one)
-
-occurs-none : (m : List ℕ) → occurs_in m [] ≡ eqb (length m) 0
+pub occurs-empty : (m s : List ℕ) → length m ≡ 0 → occurs_in m s ≡ true
 unfolding occurs_in starts_with
-occurs-none [] = refl
-occurs-none (x ∷ m) = sym (ne_eqb (suc (length m)) 0 (λ e. omega arith))
+occurs-empty [] [] e = refl
+occurs-empty [] (y ∷ s) e = refl
+occurs-empty (x ∷ m) s e = absurd (omega arith)
 
--- the part from a place to the end is all that is left
-tail-part : (s : List ℕ) (i : ℕ) → take (length s - i) (drop i s) ≡ drop i s
-tail-part s i = take_all (length s - i) (drop i s) (simp length-drop (omega arith))
+occurs-short : (m s : List ℕ) → length s < length m → occurs_in m s ≡ false
+unfolding occurs_in
+occurs-short m [] h = starts-short m [] h
+occurs-short m (y ∷ s) h = rw (starts-short m (y ∷ s) h) (occurs-short m s (omega arith))
 
--- the bytes are searched from their front
-module _ (m s : List ℕ) (i : ℕ) where
-  pub occurs-end : i ≡ length s → occurs_in m (drop i s) ≡ eqb (length m) 0
-  occurs-end e = ap (λ (n : ℕ). occurs_in m (drop n s)) e ∙ ap (occurs_in m) (drop-length s) ∙ occurs-none m
+-- the first bytes are those of m, or the search goes on behind the first of them
+occurs-here : (m s : List ℕ) → take (length m) s ≡ m → occurs_in m s ≡ true
+unfolding occurs_in
+occurs-here m [] e = starts-take m [] e
+occurs-here m (y ∷ s) e = rw (starts-take m (y ∷ s) e)
 
-  module _ (h : i < length s) where
-    pub occurs-here : starts_with m (take (length s - i) (drop i s)) ≡ true → occurs_in m (drop i s) ≡ true
-    unfolding occurs_in
-    occurs-here e = rw (drop-cons s i 0 h, rw (tail-part s i, drop-cons s i 0 h) at e)
+occurs-past : (m s : List ℕ) → 0 < length s → (take (length m) s ≡ m → ⊥) → occurs_in m s ≡ occurs_in m (drop 1 s)
+unfolding occurs_in
+occurs-past m [] h n = absurd (omega arith)
+occurs-past m (y ∷ s) h n = go (starts_with m (y ∷ s)) refl
+  where
+    go : (t : Bool) → starts_with m (y ∷ s) ≡ t → pick t true (occurs_in m s) ≡ occurs_in m s
+    go true e = absurd (n (take-starts m (y ∷ s) e))
+    go false e = refl
 
-    pub occurs-past : starts_with m (take (length s - i) (drop i s)) ≡ false → occurs_in m (drop i s) ≡ occurs_in m (drop (i + 1) s)
-    unfolding occurs_in
-    occurs-past e = rw (drop-cons s i 0 h, rw (tail-part s i, drop-cons s i 0 h) at e, add-one)
+-- bytes that are searched window by window, until one is m: `rest` says what is left of them
+module _ {S F : Type 0} (m : List ℕ) (some_m : 0 < length m) (steps : S → Option (Bor (List ℕ)) → S → Type 0) (rest : S → List ℕ) (size : S → ℕ) where
+  module _
+      (g : Mut F (Bor (List ℕ) × Unit {0}) Bool)
+      (f : F)
+      (none : (s t : S) → steps s None t → length (rest s) < size s)
+      (some : (s : S) (b : Bor (List ℕ)) (t : S) → steps s (Some b) t
+      → (size t ≡ size s) × (size s ≤ length (rest s)) × (b.now ≡ take (size s) (rest s)) × (rest t ≡ drop 1 (rest s)))
+      (hit : (b : Bor (List ℕ)) (h : F) → Called g f (b, tt) true h → b.now ≡ m)
+      (miss : (b : Bor (List ℕ)) (h : F) → Called g f (b, tt) false h → (h ≡ f) × (b.now ≡ m → ⊥))
+    where
+      pub windows-occur : (bs : List (Bor (List ℕ))) (s t u : S) (o : Option (Bor (List ℕ))) (j : F) (r : Bool)
+          → size s ≡ length m → Yields steps s bs t → steps t o u → FoldsTo (λ p b q. Called g p (b, tt) false q) f bs j
+          → MatchOption o (r ≡ false) (λ b. (r ≡ true) × ((h : F) × Called g j (b, tt) true h))
+          → r ≡ occurs_in m (rest s)
+      windows-occur [] s t u None j r n y e k q =
+          let short : length (rest s) < size s = none s u (subst (λ v. steps v None u) (sym y) e) in
+          q ∙ sym (occurs-short m (rest s) (omega arith))
+      windows-occur [] s t u (Some b) j r n y e k q =
+          let w = some s b u (subst (λ v. steps v (Some b) u) (sym y) e) in
+          let is : b.now ≡ m = hit b q.1.0 (subst (λ p. Called g p (b, tt) true q.1.0) (sym k) q.1.1) in
+          q.0 ∙ sym (occurs-here m (rest s) (ap (λ (i : ℕ). take i (rest s)) (sym n) ∙ sym w.2 ∙ is))
+      windows-occur (b ∷ bs) s t u o j r n y e k q =
+          let w = some s b y.0 y.1 in
+          let no = miss b k.0 k.1 in
+          let other : take (length m) (rest s) ≡ m → ⊥ = λ z. no.1 (w.2 ∙ ap (λ (i : ℕ). take i (rest s)) n ∙ z) in
+          let room : size s ≤ length (rest s) = w.1 in
+          windows-occur bs y.0 t u o j r (w.0 ∙ n) y.2 e (subst (λ p. FoldsTo (λ p b q. Called g p (b, tt) false q) p bs j) no.0 k.2) q
+          ∙ ap (occurs_in m) w.3
+          ∙ sym (occurs-past m (rest s) (omega arith) other)
 
 at_same : (l : List ℕ) (i j : ℕ) → i ≡ j → get_or l i 0 ≡ get_or l j 0
 at_same l i j e = ap (λ (i : ℕ). get_or l i 0) e

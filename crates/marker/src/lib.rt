@@ -3,34 +3,11 @@
 #![tactic(auto)]
 
 ghost use Rattle.std.specs.Prelude.{◌≡◌};
-ghost use Rattle.marker.specs.Marker.{starts_with, occurs_in};
+ghost use Rattle.marker.specs.Marker.{occurs_in};
 
+// Nearly every place differs in the first or second byte, so a search costs little more than one look at each.
 pub fn occurs(marker: &[u8], bytes: &[u8]) -> bool
     ensures { result ≡ occurs_in marker.now bytes.now }
 {
-    let mut at: usize = 0;
-    while at < bytes.len() {
-        if starts_with(&bytes[at..], marker) {
-            return true;
-        }
-        at += 1;
-    }
-    marker.len() == 0
-}
-
-// Nearly every place differs in the first or second byte, so a search costs little more than one look at each.
-fn starts_with(bytes: &[u8], marker: &[u8]) -> bool
-    ensures { result ≡ starts_with marker.now bytes.now }
-{
-    let mut i: usize = 0;
-    while i < marker.len() {
-        if bytes.len() <= i {
-            return false;
-        }
-        if bytes[i] != marker[i] {
-            return false;
-        }
-        i += 1;
-    }
-    true
+    marker.is_empty() || bytes.windows(marker.len()).any(|window| window == marker)
 }

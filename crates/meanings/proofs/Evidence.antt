@@ -16,18 +16,17 @@ use Rattle.lists.specs.Pieces.{among, fold}
 use Rattle.lists.proofs.Booleans.{and_yes, and_left, and_right}
 use Rattle.lists.proofs.Fold.{fold-last}
 use Rattle.lists.proofs.Picks.{never_both}
-use Rattle.answers.specs.Trust.{evidence_number, no_grounds, with_ground, ground_if}
+use Rattle.answers.specs.Tables.{empty, with_item, with_if}
+use Rattle.answers.specs.Trust.{Grounds, evidence_number}
 use Rattle.answers.specs.declared.trust.Evidence.{Evidence}
 use Rattle.answers.specs.declared.trust.Evidence.TheVariants as evidence
-use Rattle.answers.specs.declared.trust.Grounds.{Grounds}
 use Rattle.slots.specs.Slots.{row_count_matches}
 use Rattle.votes.specs.Votes.{ballots, is_verified, candidate_of, assessment_of}
 use Rattle.votes.specs.declared.Candidate.{Candidate}
 use Rattle.votes.specs.declared.Assessment.{Assessment}
 use Rattle.groups.specs.declared.Group.TheVariants.{Others}
 use Rattle.groups.specs.Groups.{belongs, group, or_zeros, most_of}
-use Rattle.choice.specs.declared.Choice.{Choice}
-use Rattle.choice.specs.Rules.{grounds_of, choice_of}
+use Rattle.choice.specs.Rules.{grounds_of}
 use Rattle.meanings.specs.Values.{votes_for, dissent_from, zeros_with, stands_for}
 use Rattle.meanings.specs.Sources.{Other}
 use Rattle.meanings.specs.Evidence.{EvidenceTold, BestOther, LeadsBy, Supports, Evidenced}
@@ -150,15 +149,6 @@ module _ (lim : ℕ) (shifted anchors : List ℕ) (n t bv : ℕ) where
   abbrev So : Evidence → Type 0
   So = Supports lim shifted anchors n t bv
 
-  nothing-so : (e : Evidence) → evidence_number e ≡ 0 → So e → ⊥
-  unfolding Supports
-  nothing-so evidence.Nothing h s = s
-  nothing-so evidence.TrailerRowCount h s = omega arith
-  nothing-so (evidence.ExactSectors c d) h s = omega arith
-  nothing-so evidence.BlockAnchor h s = omega arith
-  nothing-so (evidence.ZeroMass z l) h s = omega arith
-  nothing-so evidence.Unallocated h s = s
-
   rows-so : Kind So evidence.TrailerRowCount (is_verified lim shifted n t bv)
   unfolding Supports is_verified
   rows-so = record { so = λ e. (ltb-true 0 n (and_left (ltb 0 n) passes e), and_right (ltb 0 n) passes e); alone = alone }
@@ -167,7 +157,6 @@ module _ (lim : ℕ) (shifted anchors : List ℕ) (n t bv : ℕ) where
       passes = row_count_matches lim (plain_of bv shifted) n t
 
       alone : (e : Evidence) → evidence_number e ≡ 1 → So e → (is_verified lim shifted n t bv ≡ true) × (e ≡ evidence.TrailerRowCount)
-      alone evidence.Nothing h s = absurd s
       alone evidence.TrailerRowCount h s = (and_yes (ltb 0 n) passes (lt-ltb 0 n s.0) s.1, refl)
       alone (evidence.ExactSectors c d) h s = absurd (omega arith)
       alone evidence.BlockAnchor h s = absurd (omega arith)
@@ -183,7 +172,6 @@ module _ (lim : ℕ) (shifted anchors : List ℕ) (n t bv : ℕ) where
           → evidence_number e ≡ 2
           → So e
           → (ltb 0 (votes_for shifted bv) ≡ true) × (e ≡ evidence.ExactSectors (votes_for shifted bv) (dissent_from shifted bv))
-      alone evidence.Nothing h s = absurd s
       alone evidence.TrailerRowCount h s = absurd (omega arith)
       alone (evidence.ExactSectors c d) h s = (lt-ltb 0 (votes_for shifted bv) s.0, ap₂ evidence.ExactSectors s.1 s.2)
       alone evidence.BlockAnchor h s = absurd (omega arith)
@@ -195,7 +183,6 @@ module _ (lim : ℕ) (shifted anchors : List ℕ) (n t bv : ℕ) where
   anchor-so = record { so = λ e. e; alone = alone }
     where
       alone : (e : Evidence) → evidence_number e ≡ 3 → So e → (is_in bv anchors ≡ true) × (e ≡ evidence.BlockAnchor)
-      alone evidence.Nothing h s = absurd s
       alone evidence.TrailerRowCount h s = absurd (omega arith)
       alone (evidence.ExactSectors c d) h s = absurd (omega arith)
       alone evidence.BlockAnchor h s = (s, refl)
@@ -207,7 +194,6 @@ module _ (lim : ℕ) (shifted anchors : List ℕ) (n t bv : ℕ) where
   mass-so lead w = record { so = λ e. (refl, w); alone = alone }
     where
       alone : (e : Evidence) → evidence_number e ≡ 4 → So e → (◌≡◌ {A = Bool} true true) × (e ≡ evidence.ZeroMass (zeros_with shifted bv) lead)
-      alone evidence.Nothing h s = absurd s
       alone evidence.TrailerRowCount h s = absurd (omega arith)
       alone (evidence.ExactSectors c d) h s = absurd (omega arith)
       alone evidence.BlockAnchor h s = absurd (omega arith)
@@ -216,20 +202,19 @@ module _ (lim : ℕ) (shifted anchors : List ℕ) (n t bv : ℕ) where
 
   -- the table, in the words of the page
   abbrev rows_told : Grounds
-  rows_told = ground_if (is_verified lim shifted n t bv) no_grounds evidence.TrailerRowCount
+  rows_told = with_if (is_verified lim shifted n t bv) empty evidence.TrailerRowCount
 
   abbrev votes_told : Grounds
-  votes_told = ground_if (ltb 0 (votes_for shifted bv)) rows_told (evidence.ExactSectors (votes_for shifted bv) (dissent_from shifted bv))
+  votes_told = with_if (ltb 0 (votes_for shifted bv)) rows_told (evidence.ExactSectors (votes_for shifted bv) (dissent_from shifted bv))
 
   abbrev anchor_told : Grounds
-  anchor_told = ground_if (is_in bv anchors) votes_told evidence.BlockAnchor
+  anchor_told = with_if (is_in bv anchors) votes_told evidence.BlockAnchor
 
   abbrev all_told : ℕ → Grounds
-  all_told lead = with_ground anchor_told (evidence.ZeroMass (zeros_with shifted bv) lead)
+  all_told lead = with_item anchor_told (evidence.ZeroMass (zeros_with shifted bv) lead)
 
   fifth-not : (e : Evidence) → 4 < evidence_number e → So e → ⊥
   unfolding Supports
-  fifth-not evidence.Nothing h s = s
   fifth-not evidence.TrailerRowCount h s = omega arith
   fifth-not (evidence.ExactSectors c d) h s = omega arith
   fifth-not evidence.BlockAnchor h s = omega arith
@@ -238,8 +223,8 @@ module _ (lim : ℕ) (shifted anchors : List ℕ) (n t bv : ℕ) where
 
   told : (lead : ℕ) → LeadsBy shifted bv lead → EvidenceTold So (all_told lead)
   told lead w =
-      let none : UpTo So 0 no_grounds = up_none So nothing-so in
-      let rows : UpTo So 1 rows_told = up_next So 0 no_grounds none evidence.TrailerRowCount refl (omega arith) (is_verified lim shifted n t bv) rows-so in
+      let none : UpTo So 0 empty = up_none So in
+      let rows : UpTo So 1 rows_told = up_next So 0 empty none evidence.TrailerRowCount refl (omega arith) (is_verified lim shifted n t bv) rows-so in
       let votes : UpTo So 2 votes_told = up_next So 1 rows_told rows _ refl (omega arith) (ltb 0 (votes_for shifted bv)) votes-so in
       let anchor : UpTo So 3 anchor_told = up_next So 2 votes_told votes evidence.BlockAnchor refl (omega arith) (is_in bv anchors) anchor-so in
       let all : UpTo So 4 (all_told lead) = up_next So 3 anchor_told anchor _ refl (omega arith) true (mass-so lead w) in
@@ -261,11 +246,10 @@ pub evidenced : Evidenced
 evidenced =
     record {
       choice =
-          λ number shifted anchors n o b good.
+          λ number shifted anchors n o b c good.
           let lim : ℕ = o.search_limit in
           let t : ℕ = o.min_trailer_count in
-          let c : Choice = choice_of number shifted anchors n o in
-          let w : Chosen lim shifted anchors n t c = chosen-stands number shifted anchors n o b good in
+          let w : Chosen lim shifted anchors n t c = chosen-stands number shifted anchors n o b c good in
           subst (EvidenceTold (Supports lim shifted anchors n t c.bv)) (sym (w.grounds ∙ listed-told lim shifted anchors n t c.bv w.byte b))
           (told lim shifted anchors n t c.bv _ (leads lim shifted anchors n t c.bv b w.long));
     }

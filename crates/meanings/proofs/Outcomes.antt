@@ -16,9 +16,11 @@ use Rattle.lists.proofs.Among.{among-length}
 use Rattle.lists.proofs.Booleans.{not-true, and_yes, and_left, and_right, or-no-left, or-no-right, or_yes_right}
 use Rattle.lists.proofs.Many.{many-zero, many-some, many-weaker}
 use Rattle.lists.proofs.Picks.{pick-case, never_both}
-use Rattle.answers.specs.Answers.{no_bvs}
+use Rattle.std.specs.Prelude.{Some, None, Result, Ok}
+use Rattle.answers.specs.Answers.{Answer}
+use Rattle.answers.specs.Tables.{empty}
 use Rattle.answers.specs.Settings.{keystream, limit_fits}
-use Rattle.answers.specs.declared.kinds.Answer.TheVariants as answer
+use Rattle.answers.specs.declared.kinds.Refusal.TheVariants.{WrongBufferLength, LimitOutOfRange}
 use Rattle.answers.specs.declared.trust.Source.TheVariants as source
 use Rattle.answers.specs.declared.trust.Confidence.TheVariants as confidence
 use Rattle.answers.specs.declared.notices.WarningKind.TheVariants as warning
@@ -33,7 +35,8 @@ use Rattle.votes.proofs.Tests.{lt-cases}
 use Rattle.groups.specs.declared.Group.TheVariants.{Verified, Voted, Only, Others, Rivals, Contest, Supported}
 use Rattle.groups.specs.Groups.{first_of, belongs, members, group, highest_of, bvs_of}
 use Rattle.choice.specs.declared.Choice.{Choice}
-use Rattle.choice.specs.Rules.{taken_of, refused_of, ambiguous_of, unverified_of, top_candidate, is_corroborated, is_calibrated}
+use Rattle.choice.specs.declared.Refused.{Refused}
+use Rattle.choice.specs.Rules.{taken_of, unless_refused, ambiguous_of, unverified_of, top_candidate, is_corroborated, is_calibrated}
 use Rattle.choice.specs.Rules.{rule_three, rule_two, sole_of, rule_one, choice_of}
 use Rattle.meanings.specs.Values.{exact_sectors, votes_for, stands_for}
 use Rattle.meanings.specs.Sources.{Stands, Other, verified_number, NoneVerified, is_strong, is_disputed, disputed_number}
@@ -119,7 +122,7 @@ module _ (number : ℕ) (shifted anchors : List ℕ) (n : ℕ) (o : Options) (lo
       → (h : Candidate)
       → Highest make (made-bv lim shifted anchors n t) in_dispute h
       → Meaning number shifted anchors n o
-      (taken_of a h source.Histogram confidence.Unverified (warning.AmbiguousCalibration h.bv) (bvs_of (members (Others h.bv) g)))
+      (Ok (taken_of a h source.Histogram confidence.Unverified (Some (warning.AmbiguousCalibration h.bv)) (bvs_of (members (Others h.bv) g))))
   unfolding taken_of candidate_of
   on-highest g e two k h l =
       let m : ℕ = l.at in
@@ -130,11 +133,11 @@ module _ (number : ℕ) (shifted anchors : List ℕ) (n : ℕ) (o : Options) (lo
       subst
       (λ (x : Candidate).
       Meaning number shifted anchors n o
-      (taken_of a x source.Histogram confidence.Unverified (warning.AmbiguousCalibration x.bv) (bvs_of (members (Others x.bv) g))))
+      (Ok (taken_of a x source.Histogram confidence.Unverified (Some (warning.AmbiguousCalibration x.bv)) (bvs_of (members (Others x.bv) g)))))
       (sym l.is)
       (Meaning.ranked
       (record {
-        marked = record { answered = refl; from = refl; trusted = refl; warned = refl };
+        marked = record { from = refl; trusted = refl; warned = refl };
         within = within;
         lenient = k;
         stands = record { byte = l.small; candidate = disputed-stands lim shifted anchors n t m l.passes };
@@ -152,7 +155,7 @@ module _ (number : ℕ) (shifted anchors : List ℕ) (n : ℕ) (o : Options) (lo
       → g ≡ among in_dispute make 256
       → 2 ≤ length g
       → Meaning number shifted anchors n o (ambiguous_of number (keystream o) a g)
-  unfolding ambiguous_of refused_of disputed_number
+  unfolding ambiguous_of disputed_number
   on-dispute g e two =
       let size : length g ≡ how_many in_dispute 256 = ap length e ∙ among-length in_dispute make 256 in
       let many : 2 ≤ disputed_number lim shifted anchors n t = omega (arith, size) in
@@ -164,7 +167,7 @@ module _ (number : ℕ) (shifted anchors : List ℕ) (n : ℕ) (o : Options) (lo
       (λ k.
       Meaning.ambiguous
       (record {
-        marked = record { answered = refl; from = refl; trusted = refl; warned = refl };
+        marked = refl;
         within = within;
         strict = k;
         dispute = many;
@@ -244,13 +247,13 @@ module _ (number : ℕ) (shifted anchors : List ℕ) (n : ℕ) (o : Options) (lo
 
   module _ (none : NoneVerified lim shifted n t) (one : exact_sectors shifted ≤ 1) where
     on-top : is_corroborated a (make top) ≡ false → Meaning number shifted anchors n o (unverified_of number (keystream o) a (make top))
-    unfolding unverified_of taken_of refused_of candidate_of
+    unfolding unverified_of taken_of candidate_of
     on-top e =
         pick-case (Meaning number shifted anchors n o) (keystream o) _ _
         (λ k.
         Meaning.topmost
         (record {
-          marked = record { answered = refl; from = refl; trusted = refl; warned = refl };
+          marked = record { from = refl; trusted = refl; warned = refl };
           unlisted = refl;
           within = within;
           lenient = k;
@@ -261,7 +264,7 @@ module _ (number : ℕ) (shifted anchors : List ℕ) (n : ℕ) (o : Options) (lo
         (λ k.
         Meaning.unverified
         (record {
-          marked = record { answered = refl; from = refl; trusted = refl; warned = refl };
+          marked = refl;
           unlisted = refl;
           within = within;
           strict = k;
@@ -274,15 +277,15 @@ module _ (number : ℕ) (shifted anchors : List ℕ) (n : ℕ) (o : Options) (lo
         subst
         (λ (c : Candidate).
         Meaning number shifted anchors n o
-        (pick (is_corroborated a c) (taken_of a c source.Corroborated confidence.Corroborated warning.Nothing no_bvs) (unverified_of number (keystream o) a c)))
+        (pick (is_corroborated a c) (Ok (taken_of a c source.Corroborated confidence.Corroborated None empty)) (unverified_of number (keystream o) a c)))
         (sym top-made)
         (pick-case (Meaning number shifted anchors n o) (is_corroborated a (make top))
-        (taken_of a (make top) source.Corroborated confidence.Corroborated warning.Nothing no_bvs)
+        (Ok (taken_of a (make top) source.Corroborated confidence.Corroborated None empty))
         (unverified_of number (keystream o) a (make top))
         (λ e.
         Meaning.corroborated
         (record {
-          marked = record { answered = refl; from = refl; trusted = refl; warned = refl };
+          marked = record { from = refl; trusted = refl; warned = refl };
           unlisted = refl;
           within = within;
           stands = top-stands;
@@ -336,14 +339,14 @@ module _ (number : ℕ) (shifted anchors : List ℕ) (n : ℕ) (o : Options) (lo
 
       on-calibrated :
           leb 2 (first_of (group Voted a)).votes ≡ true
-          → Meaning number shifted anchors n o (taken_of a (first_of (group Voted a)) source.ExactSectors confidence.Calibrated warning.Nothing no_bvs)
+          → Meaning number shifted anchors n o (Ok (taken_of a (first_of (group Voted a)) source.ExactSectors confidence.Calibrated None empty))
       unfolding taken_of candidate_of
       on-calibrated e =
-          subst (λ (c : Candidate). Meaning number shifted anchors n o (taken_of a c source.ExactSectors confidence.Calibrated warning.Nothing no_bvs))
+          subst (λ (c : Candidate). Meaning number shifted anchors n o (Ok (taken_of a c source.ExactSectors confidence.Calibrated None empty)))
           (sym first_made)
           (Meaning.exact-sectors
           (record {
-            marked = record { answered = refl; from = refl; trusted = refl; warned = refl };
+            marked = record { from = refl; trusted = refl; warned = refl };
             unlisted = refl;
             within = within;
             stands = record { byte = r.below; candidate = disputed-stands lim shifted anchors n t r.at r.passes };
@@ -380,7 +383,7 @@ module _ (number : ℕ) (shifted anchors : List ℕ) (n : ℕ) (o : Options) (lo
     on-two : Meaning number shifted anchors n o (rule_two number (keystream o) a)
     unfolding rule_two is_calibrated
     on-two =
-        let one : Choice = taken_of a (first_of (group Voted a)) source.ExactSectors confidence.Calibrated warning.Nothing no_bvs in
+        let one : Result Choice Refused = Ok (taken_of a (first_of (group Voted a)) source.ExactSectors confidence.Calibrated None empty) in
         pick-case (Meaning number shifted anchors n o) (leb 2 (length (group Voted a))) (ambiguous_of number (keystream o) a (group Voted a))
         (pick (is_calibrated (length (group Voted a)) (group Voted a)) one (rule_three number (keystream o) a))
         (λ e. on-dispute (group Voted a) voted (leb-true 2 (length (group Voted a)) e))
@@ -481,7 +484,7 @@ module _ (number : ℕ) (shifted anchors : List ℕ) (n : ℕ) (o : Options) (lo
     unfolding sole_of taken_of candidate_of is_verified is_strong
     on-sole =
         pick-case (Meaning number shifted anchors n o) (eqb (length (group (Rivals k a.top) a)) 0)
-        (taken_of a (make k) source.TrailerRowCount confidence.Verified warning.Nothing no_bvs)
+        (Ok (taken_of a (make k) source.TrailerRowCount confidence.Verified None empty))
         (ambiguous_of number (keystream o) a (group (Contest k a.top) a))
         (λ e.
         let none : how_many rival 256 ≡ 0 = sym rivals-number ∙ eqb-true (length (group (Rivals k a.top) a)) 0 e in
@@ -491,7 +494,7 @@ module _ (number : ℕ) (shifted anchors : List ℕ) (n : ℕ) (o : Options) (lo
         (and-rest (stands_for shifted v) _ q.stands.candidate (none_pass rival 256 none v q.stands.byte)) in
         Meaning.row_count
         (record {
-          marked = record { answered = refl; from = refl; trusted = refl; warned = refl };
+          marked = record { from = refl; trusted = refl; warned = refl };
           unlisted = refl;
           within = within;
           sole =
@@ -512,7 +515,7 @@ module _ (number : ℕ) (shifted anchors : List ℕ) (n : ℕ) (o : Options) (lo
   on_one : Meaning number shifted anchors n o (rule_one number (keystream o) a)
   unfolding rule_one
   on_one =
-      let rest : Choice =
+      let rest : Result Choice Refused =
       pick (eqb (length (group Verified a)) 1) (sole_of number (keystream o) a (first_of (group Verified a))) (rule_two number (keystream o) a) in
       pick-case (Meaning number shifted anchors n o) (leb 2 (length (group Verified a))) (ambiguous_of number (keystream o) a (group Verified a)) rest
       (λ e.
@@ -539,28 +542,13 @@ pub every-choice :
     (number : ℕ) (shifted anchors : List ℕ) (n : ℕ) (o : Options)
     → AllBytes shifted
     → Meaning number shifted anchors n o (choice_of number shifted anchors n o)
-unfolding choice_of refused_of
+unfolding choice_of
 every-choice number shifted anchors n o bytes =
     let lim : ℕ = o.search_limit in
-    let a : Assessment = assessment lim shifted anchors n o.min_trailer_count in
-    pick-case (Meaning number shifted anchors n o) (eqb (length shifted) 4080)
-    (pick (limit_fits lim) (rule_one number (keystream o) a) (refused_of (answer.LimitOutOfRange lim) no_bvs))
-    (refused_of (answer.WrongBufferLength (length shifted)) no_bvs)
+    let rule : Result Choice Refused = rule_one number (keystream o) (assessment lim shifted anchors n o.min_trailer_count) in
+    let Q : Answer → Type 0 = λ x. Meaning number shifted anchors n o (unless_refused x rule) in
+    pick-case Q (eqb (length shifted) 4080) (pick (limit_fits lim) None (Some (LimitOutOfRange lim))) (Some (WrongBufferLength (length shifted)))
     (λ e.
-    pick-case (Meaning number shifted anchors n o) (limit_fits lim) (rule_one number (keystream o) a) (refused_of (answer.LimitOutOfRange lim) no_bvs)
-    (λ w. on_one number shifted anchors n o (eqb-true (length shifted) 4080 e) bytes w)
-    (λ w.
-    Meaning.out_of_range
-    (record {
-      marked = record { answered = refl; from = refl; trusted = refl; warned = refl };
-      unlisted = refl;
-      long = eqb-true (length shifted) 4080 e;
-      outside = w;
-    })))
-    (λ e.
-    Meaning.wrong-length
-    (record {
-      marked = record { answered = refl; from = refl; trusted = refl; warned = refl };
-      unlisted = refl;
-      wrong = eqb-false (length shifted) 4080 e;
-    }))
+    pick-case Q (limit_fits lim) None (Some (LimitOutOfRange lim)) (λ w. on_one number shifted anchors n o (eqb-true (length shifted) 4080 e) bytes w)
+    (λ w. Meaning.out_of_range (record { marked = refl; unlisted = refl; long = eqb-true (length shifted) 4080 e; outside = w })))
+    (λ e. Meaning.wrong-length (record { marked = refl; unlisted = refl; wrong = eqb-false (length shifted) 4080 e }))

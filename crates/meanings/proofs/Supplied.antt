@@ -11,23 +11,25 @@ use lib.ListN.{length}
 use Rattle.lists.proofs.Booleans.{and_yes, and_left, and_right}
 use Rattle.lists.proofs.Picks.{never_both}
 use Rattle.answers.specs.Settings.{keystream, limit_fits}
-use Rattle.answers.specs.Answers.{number_of, no_bvs}
-use Rattle.answers.specs.Trust.{confidence_number, evidence_number, no_grounds, ground_if}
-use Rattle.answers.specs.declared.kinds.Answer.{Answer}
-use Rattle.answers.specs.declared.kinds.Answer.TheVariants as answer
+use Rattle.std.specs.Prelude.{Option, Some, None, Result, Ok, Err, IsOkAnd, IsErrAnd}
+use Rattle.answers.specs.Tables.{empty, with_if}
+use Rattle.answers.specs.Answers.{number_of, refusal_number}
+use Rattle.answers.specs.Trust.{Grounds, confidence_number, evidence_number}
+use Rattle.answers.specs.declared.kinds.Refusal.{Refusal}
+use Rattle.answers.specs.declared.kinds.Refusal.TheVariants.{WrongBufferLength, KeystreamUnverified, LimitOutOfRange}
 use Rattle.answers.specs.declared.trust.Confidence.{Confidence}
 use Rattle.answers.specs.declared.trust.Confidence.TheVariants as confidence
 use Rattle.answers.specs.declared.trust.Evidence.{Evidence}
 use Rattle.answers.specs.declared.trust.Evidence.TheVariants as evidence
-use Rattle.answers.specs.declared.trust.Grounds.{Grounds}
 use Rattle.answers.specs.declared.notices.WarningKind.{WarningKind}
 use Rattle.answers.specs.declared.notices.WarningKind.TheVariants as warning
 use Rattle.answers.specs.declared.settings.Options.{Options}
 use Rattle.votes.specs.Votes.{ballots}
 use Rattle.choice.specs.declared.Choice.{Choice}
-use Rattle.choice.specs.Rules.{refused_of}
+use Rattle.choice.specs.declared.Refused.{Refused}
+use Rattle.choice.specs.Rules.{refusal, refused_answer}
 use Rattle.choice.specs.Supplied.{supplied_with, supplied_by, supplied_of}
-use Rattle.choice.proofs.ChoiceCases.{supplied_grounds, supplied-length, supplied-limit, supplied-verified, supplied-calibrated, supplied-lenient, supplied-refused}
+use Rattle.choice.proofs.ChoiceCases.{supplied_grounds, asked-length, asked-limit, supplied_refused, supplied-verified, supplied-calibrated, supplied-lenient, supplied-refused}
 use Rattle.meanings.specs.Values.{votes_for, dissent_from}
 use Rattle.meanings.specs.Evidence.{EvidenceTold}
 use Rattle.meanings.specs.Supplied.{Calibrates, passes, Backs, Unbacked, TakenAs, RefusedAs, SuppliedMeaning, SuppliedSaid, SuppliedMade, SuppliedMeans}
@@ -49,18 +51,8 @@ module _ (lim bv : ℕ) (shifted : List ℕ) (n t : ℕ) where
   abbrev dissent : ℕ
   dissent = dissent_from shifted bv
 
-  nothing-so : (e : Evidence) → evidence_number e ≡ 0 → So e → ⊥
-  unfolding Backs
-  nothing-so evidence.Nothing h s = s
-  nothing-so evidence.TrailerRowCount h s = omega arith
-  nothing-so (evidence.ExactSectors c d) h s = omega arith
-  nothing-so evidence.BlockAnchor h s = s
-  nothing-so (evidence.ZeroMass z l) h s = s
-  nothing-so evidence.Unallocated h s = s
-
   later-not : (e : Evidence) → 2 < evidence_number e → So e → ⊥
   unfolding Backs
-  later-not evidence.Nothing h s = s
   later-not evidence.TrailerRowCount h s = omega arith
   later-not (evidence.ExactSectors c d) h s = omega arith
   later-not evidence.BlockAnchor h s = s
@@ -72,7 +64,6 @@ module _ (lim bv : ℕ) (shifted : List ℕ) (n t : ℕ) where
   rows-so = record { so = λ e. e; alone = alone }
     where
       alone : (e : Evidence) → evidence_number e ≡ 1 → So e → (matches ≡ true) × (e ≡ evidence.TrailerRowCount)
-      alone evidence.Nothing h s = absurd s
       alone evidence.TrailerRowCount h s = (s, refl)
       alone (evidence.ExactSectors c d) h s = absurd (omega arith)
       alone evidence.BlockAnchor h s = absurd s
@@ -84,7 +75,6 @@ module _ (lim bv : ℕ) (shifted : List ℕ) (n t : ℕ) where
   votes-so = record { so = λ e. (leb-true 2 votes e, refl, refl); alone = alone }
     where
       alone : (e : Evidence) → evidence_number e ≡ 2 → So e → (leb 2 votes ≡ true) × (e ≡ evidence.ExactSectors votes dissent)
-      alone evidence.Nothing h s = absurd s
       alone evidence.TrailerRowCount h s = absurd (omega arith)
       alone (evidence.ExactSectors c d) h s = (le-leb 2 votes s.0, ap₂ evidence.ExactSectors s.1 s.2)
       alone evidence.BlockAnchor h s = absurd s
@@ -93,9 +83,9 @@ module _ (lim bv : ℕ) (shifted : List ℕ) (n t : ℕ) where
 
   told : EvidenceTold So (supplied_grounds votes dissent matches)
   told =
-      let none : UpTo So 0 no_grounds = up_none So nothing-so in
-      let first : Grounds = ground_if matches no_grounds evidence.TrailerRowCount in
-      let rows : UpTo So 1 first = up_next So 0 no_grounds none evidence.TrailerRowCount refl (omega arith) matches rows-so in
+      let none : UpTo So 0 empty = up_none So in
+      let first : Grounds = with_if matches empty evidence.TrailerRowCount in
+      let rows : UpTo So 1 first = up_next So 0 empty none evidence.TrailerRowCount refl (omega arith) matches rows-so in
       let all : UpTo So 2 (supplied_grounds votes dissent matches) = up_next So 1 first rows _ refl (omega arith) (leb 2 votes) votes-so in
       up-all So 2 (supplied_grounds votes dissent matches) all later-not
 
@@ -108,7 +98,7 @@ module _ (number bv : ℕ) (shifted : List ℕ) (n : ℕ) (o : Options) where
   abbrev lim : ℕ
   lim = o.search_limit
 
-  abbrev s : Choice
+  abbrev s : Result Choice Refused
   s = supplied_of number bv shifted n o
 
   abbrev v : ℕ
@@ -126,16 +116,15 @@ module _ (number bv : ℕ) (shifted : List ℕ) (n : ℕ) (o : Options) where
   abbrev agreed : Bool
   agreed = leb 2 v && eqb d 0
 
-  taken_as : (k : Confidence) (w : WarningKind) → s ≡ supplied_with bv k (supplied_grounds v d m) w → TakenAs number bv shifted n o s k w
+  taken_as :
+      (k : Confidence) (w : Option WarningKind) → s ≡ Ok (supplied_with bv k (supplied_grounds v d m) w) → IsOkAnd s (TakenAs number bv shifted n o k w)
   taken_as k w e =
-      subst (λ (c : Choice). TakenAs number bv shifted n o c k w) (sym e)
-      (record { answered = refl; value = refl; from = refl; trusted = refl; evidence = told lim bv shifted n t; unlisted = refl; warned = refl })
+      subst (λ (r : Result Choice Refused). IsOkAnd r (TakenAs number bv shifted n o k w)) (sym e)
+      (record { value = refl; from = refl; trusted = refl; evidence = told lim bv shifted n t; unlisted = refl; warned = refl })
 
-  refused_as : (x : Answer) → s ≡ refused_of x no_bvs → RefusedAs number bv shifted n o s x
-  unfolding refused_of
+  refused_as : (x : Refusal) → s ≡ Err (refusal x) → IsErrAnd s (RefusedAs number bv shifted n o x)
   refused_as x e =
-      subst (λ (c : Choice). RefusedAs number bv shifted n o c x) (sym e)
-      (record { answered = refl; value = refl; from = refl; trusted = refl; evidence = refl; unlisted = refl; warned = refl })
+      subst (λ (r : Result Choice Refused). IsErrAnd r (RefusedAs number bv shifted n o x)) (sym e) (record { answered = refl; unlisted = refl })
 
   calibrates : agreed ≡ true → Calibrates shifted bv
   calibrates e =
@@ -160,91 +149,122 @@ module _ (number bv : ℕ) (shifted : List ℕ) (n : ℕ) (o : Options) where
 
   module _ (h : length shifted ≡ 4080) (f : limit_fits lim ≡ true) where
     judged : (x : Bool) → m ≡ x → (y : Bool) → agreed ≡ y → (z : Bool) → l ≡ z → SuppliedMeaning number bv shifted n o s
-    judged true p y q z r = SuppliedMeaning.verified h f p (taken_as confidence.Verified warning.Nothing (by-words h f ∙ supplied-verified number l bv v d m p))
+    judged true p y q z r = SuppliedMeaning.verified h f p (taken_as confidence.Verified None (by-words h f ∙ supplied-verified number l bv v d m p))
     judged false p true q z r =
-        SuppliedMeaning.calibrated h f p (calibrates q) (taken_as confidence.Calibrated warning.Nothing (by-words h f ∙ supplied-calibrated number l bv v d m p q))
+        SuppliedMeaning.calibrated h f p (calibrates q) (taken_as confidence.Calibrated None (by-words h f ∙ supplied-calibrated number l bv v d m p q))
     judged false p false q true r =
         SuppliedMeaning.unverified h f (unbacked p q) r
-        (taken_as confidence.Unverified (warning.UnverifiedKeystream bv) (by-words h f ∙ supplied-lenient number l bv v d m p q r))
+        (taken_as confidence.Unverified (Some (warning.UnverifiedKeystream bv)) (by-words h f ∙ supplied-lenient number l bv v d m p q r))
     judged false p false q false r =
         SuppliedMeaning.refused h f (unbacked p q) r
-        (refused_as (answer.KeystreamUnverified number bv) (by-words h f ∙ supplied-refused number l bv v d m p q r))
+        (refused_as (KeystreamUnverified number bv) (by-words h f ∙ supplied-refused number l bv v d m p q r))
 
   limited : length shifted ≡ 4080 → (b : Bool) → limit_fits lim ≡ b → SuppliedMeaning number bv shifted n o s
   limited h true f = judged h f m refl agreed refl l refl
-  limited h false f = SuppliedMeaning.out_of_range h f (refused_as (answer.LimitOutOfRange lim) (supplied-limit number bv shifted n o h f))
+  limited h false f = SuppliedMeaning.out_of_range h f (refused_as (LimitOutOfRange lim) (supplied_refused number bv shifted n o _ (asked-limit (length shifted) lim h f)))
 
   means : Dec (length shifted ≡ 4080) → SuppliedMeaning number bv shifted n o s
   means (yes h) = limited h (limit_fits lim) refl
-  means (no ne) = SuppliedMeaning.wrong-length ne (refused_as (answer.WrongBufferLength (length shifted)) (supplied-length number bv shifted n o ne))
+  means (no ne) = SuppliedMeaning.wrong-length ne (refused_as (WrongBufferLength (length shifted)) (supplied_refused number bv shifted n o _ (asked-length (length shifted) lim ne)))
 
   -- ---- what the marks say
 
-  trusted-apart : {P : Type 0} {j k : Confidence} → s.confidence ≡ j → s.confidence ≡ k → eqb (confidence_number j) (confidence_number k) ≡ false → P
-  trusted-apart {j = j} {k = k} e f h = absurd (never_both h (eq-eqb (confidence_number j) (confidence_number k) (ap confidence_number (sym e ∙ f))))
+  trusted-apart :
+      {P : Type 0} (k : Confidence) (w : Option WarningKind) (r : Result Choice Refused)
+      → IsOkAnd r (TakenAs number bv shifted n o k w)
+      → (c : Choice)
+      → r ≡ Ok c
+      → {j : Confidence}
+      → c.confidence ≡ j
+      → eqb (confidence_number k) (confidence_number j) ≡ false
+      → P
+  trusted-apart k w r a c e {j = j} f h =
+      let taken : TakenAs number bv shifted n o k w c = subst (λ (q : Result Choice Refused). IsOkAnd q (TakenAs number bv shifted n o k w)) e a in
+      absurd (never_both h (eq-eqb (confidence_number k) (confidence_number j) (ap confidence_number (sym taken.trusted ∙ f))))
 
-  answers-apart : {P : Type 0} {x : Answer} {k : ℕ} → s.answer ≡ x → number_of s.answer ≡ k → eqb (number_of x) k ≡ false → P
-  answers-apart {x = x} {k = k} e f h = absurd (never_both h (eq-eqb (number_of x) k (ap number_of (sym e) ∙ f)))
+  -- a refused one is no accepted one
+  refused-apart :
+      {P : Type 0} (x : Refusal) (r : Result Choice Refused) → IsErrAnd r (RefusedAs number bv shifted n o x) → (c : Choice) → r ≡ Ok c → P
+  refused-apart x r a c e = absurd (subst (λ (q : Result Choice Refused). IsErrAnd q (RefusedAs number bv shifted n o x)) e a)
+
+  answers-apart :
+      {P : Type 0} (x : Refusal) {k : ℕ} (r : Result Choice Refused)
+      → IsErrAnd r (RefusedAs number bv shifted n o x)
+      → number_of (refused_answer r) ≡ k
+      → eqb (refusal_number x) k ≡ false
+      → P
+  answers-apart x (Ok c) a e h = absurd a
+  answers-apart x {k = k} (Err y) a e h =
+      absurd (never_both h (eq-eqb (refusal_number x) k (ap refusal_number (sym a.answered) ∙ e)))
+
+  accepted-apart :
+      {P : Type 0} (k : Confidence) (w : Option WarningKind) {j : ℕ} (r : Result Choice Refused)
+      → IsOkAnd r (TakenAs number bv shifted n o k w)
+      → number_of (refused_answer r) ≡ j
+      → eqb 0 j ≡ false
+      → P
+  accepted-apart k w {j = j} (Ok c) a e h = absurd (never_both h (eq-eqb 0 j e))
+  accepted-apart k w (Err y) a e h = absurd a
 
   said-by : SuppliedMeaning number bv shifted n o s → SuppliedSaid number bv shifted n o s
   said-by (SuppliedMeaning.verified h f p w) =
       record {
         accepted = λ e. (h, f);
-        verified = λ e. p;
-        calibrated = λ e. trusted-apart w.trusted e refl;
-        unverified = λ e. trusted-apart w.trusted e refl;
-        refused = λ e. answers-apart w.answered e refl;
-        out_of_range = λ e. answers-apart w.answered e refl;
-        wrong-length = λ e. answers-apart w.answered e refl;
+        verified = λ c q e. p;
+        calibrated = λ c q e. trusted-apart _ _ s w c q e refl;
+        unverified = λ c q e. trusted-apart _ _ s w c q e refl;
+        refused = λ e. accepted-apart _ _ s w e refl;
+        out_of_range = λ e. accepted-apart _ _ s w e refl;
+        wrong-length = λ e. accepted-apart _ _ s w e refl;
       }
-  said-by (SuppliedMeaning.calibrated h f p c w) =
+  said-by (SuppliedMeaning.calibrated h f p a w) =
       record {
         accepted = λ e. (h, f);
-        verified = λ e. trusted-apart w.trusted e refl;
-        calibrated = λ e. (p, c);
-        unverified = λ e. trusted-apart w.trusted e refl;
-        refused = λ e. answers-apart w.answered e refl;
-        out_of_range = λ e. answers-apart w.answered e refl;
-        wrong-length = λ e. answers-apart w.answered e refl;
+        verified = λ c q e. trusted-apart _ _ s w c q e refl;
+        calibrated = λ c q e. (p, a);
+        unverified = λ c q e. trusted-apart _ _ s w c q e refl;
+        refused = λ e. accepted-apart _ _ s w e refl;
+        out_of_range = λ e. accepted-apart _ _ s w e refl;
+        wrong-length = λ e. accepted-apart _ _ s w e refl;
       }
   said-by (SuppliedMeaning.unverified h f u r w) =
       record {
         accepted = λ e. (h, f);
-        verified = λ e. trusted-apart w.trusted e refl;
-        calibrated = λ e. trusted-apart w.trusted e refl;
-        unverified = λ e. (u, r);
-        refused = λ e. answers-apart w.answered e refl;
-        out_of_range = λ e. answers-apart w.answered e refl;
-        wrong-length = λ e. answers-apart w.answered e refl;
+        verified = λ c q e. trusted-apart _ _ s w c q e refl;
+        calibrated = λ c q e. trusted-apart _ _ s w c q e refl;
+        unverified = λ c q e. (u, r);
+        refused = λ e. accepted-apart _ _ s w e refl;
+        out_of_range = λ e. accepted-apart _ _ s w e refl;
+        wrong-length = λ e. accepted-apart _ _ s w e refl;
       }
   said-by (SuppliedMeaning.refused h f u r w) =
       record {
-        accepted = λ e. answers-apart w.answered e refl;
-        verified = λ e. trusted-apart w.trusted e refl;
-        calibrated = λ e. trusted-apart w.trusted e refl;
-        unverified = λ e. trusted-apart w.trusted e refl;
+        accepted = λ e. answers-apart _ s w e refl;
+        verified = λ c q e. refused-apart _ s w c q;
+        calibrated = λ c q e. refused-apart _ s w c q;
+        unverified = λ c q e. refused-apart _ s w c q;
         refused = λ e. (u, r);
-        out_of_range = λ e. answers-apart w.answered e refl;
-        wrong-length = λ e. answers-apart w.answered e refl;
+        out_of_range = λ e. answers-apart _ s w e refl;
+        wrong-length = λ e. answers-apart _ s w e refl;
       }
   said-by (SuppliedMeaning.out_of_range h f w) =
       record {
-        accepted = λ e. answers-apart w.answered e refl;
-        verified = λ e. trusted-apart w.trusted e refl;
-        calibrated = λ e. trusted-apart w.trusted e refl;
-        unverified = λ e. trusted-apart w.trusted e refl;
-        refused = λ e. answers-apart w.answered e refl;
+        accepted = λ e. answers-apart _ s w e refl;
+        verified = λ c q e. refused-apart _ s w c q;
+        calibrated = λ c q e. refused-apart _ s w c q;
+        unverified = λ c q e. refused-apart _ s w c q;
+        refused = λ e. answers-apart _ s w e refl;
         out_of_range = λ e. (h, f);
-        wrong-length = λ e. answers-apart w.answered e refl;
+        wrong-length = λ e. answers-apart _ s w e refl;
       }
   said-by (SuppliedMeaning.wrong-length ne w) =
       record {
-        accepted = λ e. answers-apart w.answered e refl;
-        verified = λ e. trusted-apart w.trusted e refl;
-        calibrated = λ e. trusted-apart w.trusted e refl;
-        unverified = λ e. trusted-apart w.trusted e refl;
-        refused = λ e. answers-apart w.answered e refl;
-        out_of_range = λ e. answers-apart w.answered e refl;
+        accepted = λ e. answers-apart _ s w e refl;
+        verified = λ c q e. refused-apart _ s w c q;
+        calibrated = λ c q e. refused-apart _ s w c q;
+        unverified = λ c q e. refused-apart _ s w c q;
+        refused = λ e. answers-apart _ s w e refl;
+        out_of_range = λ e. answers-apart _ s w e refl;
         wrong-length = λ e. ne;
       }
 

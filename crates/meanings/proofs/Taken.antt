@@ -14,17 +14,16 @@ use Rattle.lists.specs.Pieces.{among, keep, fold}
 use Rattle.lists.proofs.Booleans.{or_yes_right}
 use Rattle.lists.proofs.Keep.{keep-among}
 use Rattle.lists.proofs.Picks.{pick-case, never_both}
-use Rattle.answers.specs.Answers.{is_accepted, no_bvs}
+use Rattle.std.specs.Prelude.{Option, Some, None, Result, Ok, Err, IfOk}
+use Rattle.answers.specs.Tables.{empty}
+use Rattle.answers.specs.Answers.{Answer, Bvs}
 use Rattle.answers.specs.Settings.{keystream, limit_fits}
-use Rattle.answers.specs.declared.kinds.Answer.{Answer}
-use Rattle.answers.specs.declared.kinds.Answer.TheVariants as answer
-use Rattle.answers.specs.declared.kinds.Bvs.{Bvs}
+use Rattle.answers.specs.declared.kinds.Refusal.TheVariants.{WrongBufferLength, LimitOutOfRange}
 use Rattle.answers.specs.declared.trust.Source.{Source}
 use Rattle.answers.specs.declared.trust.Source.TheVariants as source
 use Rattle.answers.specs.declared.trust.Confidence.{Confidence}
 use Rattle.answers.specs.declared.trust.Confidence.TheVariants as confidence
 use Rattle.answers.specs.declared.notices.WarningKind.{WarningKind}
-use Rattle.answers.specs.declared.notices.WarningKind.TheVariants as warning
 use Rattle.answers.specs.declared.settings.Options.{Options}
 use Rattle.votes.specs.Votes.{counts_of, ballots, top_of, candidate_of, candidates_below, assessment_of, listed}
 use Rattle.votes.specs.declared.Candidate.{Candidate}
@@ -35,7 +34,8 @@ use Rattle.groups.specs.declared.Group.{Group}
 use Rattle.groups.specs.declared.Group.TheVariants.{Verified, Voted, Only, Rivals, Contest}
 use Rattle.groups.specs.Groups.{first_of, is_rival, belongs, group, outranks, higher, highest_of}
 use Rattle.choice.specs.declared.Choice.{Choice}
-use Rattle.choice.specs.Rules.{grounds_of, taken_of, refused_of, ambiguous_of, unverified_of, top_candidate, is_corroborated, rule_four, rule_three, is_calibrated, rule_two, sole_of, rule_one, choice_of}
+use Rattle.choice.specs.declared.Refused.{Refused}
+use Rattle.choice.specs.Rules.{grounds_of, taken_of, unless_refused, ambiguous_of, unverified_of, top_candidate, is_corroborated, rule_four, rule_three, is_calibrated, rule_two, sole_of, rule_one, choice_of}
 use Rattle.meanings.specs.Values.{stands_for}
 
 -- what holds of every candidate of a list
@@ -50,8 +50,8 @@ record Taking (P : Candidate → Type 0) (a : Assessment) (c : Choice) : Type 0 
   bv : c.bv ≡ taken.bv
   grounds : c.grounds ≡ grounds_of a taken
 
-record Takes (P : Candidate → Type 0) (a : Assessment) (c : Choice) : Type 0 where
-  made : is_accepted c.answer ≡ true → Taking P a c
+record Takes (P : Candidate → Type 0) (a : Assessment) (r : Result Choice Refused) : Type 0 where
+  made : IfOk r (Taking P a)
 
 module _ (P : Candidate → Type 0) where
   all_append : (l m : List Candidate) → AllOf P l → AllOf P m → AllOf P (l ++ m)
@@ -110,19 +110,18 @@ module _
     all-group : (g : Group) → AllOf P (group g a)
     all-group g = all_keep P (belongs g) (listed a.candidates) all
 
-    takes-taken : (c : Candidate) (s : Source) (k : Confidence) (w : WarningKind) (g : Bvs) → P c → Takes P a (taken_of a c s k w g)
+    takes-taken : (c : Candidate) (s : Source) (k : Confidence) (w : Option WarningKind) (g : Bvs) → P c → Takes P a (Ok (taken_of a c s k w g))
     unfolding taken_of
-    takes-taken c s k w g h = record { made = λ e. record { taken = c; holds = h; bv = refl; grounds = refl } }
+    takes-taken c s k w g h = record { made = record { taken = c; holds = h; bv = refl; grounds = refl } }
 
-    takes-refused : (x : Answer) (g : Bvs) → is_accepted x ≡ false → Takes P a (refused_of x g)
-    unfolding refused_of
-    takes-refused x g h = record { made = λ e. absurd (never_both h e) }
+    takes-refused : (e : Refused) → Takes P a (Err e)
+    takes-refused e = record { made = tt }
 
     takes-ambiguous : (g : List Candidate) → 0 < length g → AllOf P g → Takes P a (ambiguous_of number lenient a g)
     unfolding ambiguous_of
     takes-ambiguous g h s =
         pick-case (Takes P a) lenient _ _ (λ e. takes-taken (highest_of g) _ _ _ _ (all-best P g h s))
-        (λ e. takes-refused (answer.AmbiguousCalibration number) _ refl)
+        (λ e. takes-refused _)
 
     top-holds : P (top_candidate a)
     top-holds = all_first P (group (Only a.top) a) top (all-group (Only a.top))
@@ -131,13 +130,13 @@ module _
     unfolding unverified_of
     takes-four =
         pick-case (Takes P a) lenient _ _ (λ e. takes-taken (top_candidate a) _ _ _ _ top-holds)
-        (λ e. takes-refused (answer.KeystreamUnverified number (top_candidate a).bv) _ refl)
+        (λ e. takes-refused _)
 
     takes-three : Takes P a (rule_three number lenient a)
     unfolding rule_three
     takes-three =
         pick-case (Takes P a) (is_corroborated a (top_candidate a))
-        (taken_of a (top_candidate a) source.Corroborated confidence.Corroborated warning.Nothing no_bvs)
+        (Ok (taken_of a (top_candidate a) source.Corroborated confidence.Corroborated None empty))
         (rule_four number lenient a)
         (λ e. takes-taken (top_candidate a) _ _ _ _ top-holds)
         (λ e. takes-four)
@@ -151,7 +150,7 @@ module _
     unfolding rule_two
     takes_two =
         let voted : List Candidate = group Voted a in
-        let one : Choice = taken_of a (first_of voted) source.ExactSectors confidence.Calibrated warning.Nothing no_bvs in
+        let one : Result Choice Refused = Ok (taken_of a (first_of voted) source.ExactSectors confidence.Calibrated None empty) in
         pick-case (Takes P a) (leb 2 (length voted)) (ambiguous_of number lenient a voted)
         (pick (is_calibrated (length voted) voted) one (rule_three number lenient a))
         (λ e. takes-ambiguous voted (omega (arith, leb-true 2 (length voted) e)) (all-group Voted))
@@ -168,7 +167,7 @@ module _
         let more : length rivals ≤ length contest =
         wider (belongs (Rivals v.bv a.top)) (belongs (Contest v.bv a.top))
         (λ c e. or_yes_right (eqb c.bv v.bv) (is_rival v.bv a.top c) e) (listed a.candidates) in
-        pick-case (Takes P a) (eqb (length rivals) 0) (taken_of a v source.TrailerRowCount confidence.Verified warning.Nothing no_bvs)
+        pick-case (Takes P a) (eqb (length rivals) 0) (Ok (taken_of a v source.TrailerRowCount confidence.Verified None empty))
         (ambiguous_of number lenient a contest) (λ e. takes-taken v _ _ _ _ s)
         (λ e. takes-ambiguous contest (some rivals contest more e) (all-group (Contest v.bv a.top)))
       where
@@ -180,7 +179,7 @@ module _
     unfolding rule_one
     takes_one =
         let verified : List Candidate = group Verified a in
-        let rest : Choice = pick (eqb (length verified) 1) (sole_of number lenient a (first_of verified)) (rule_two number lenient a) in
+        let rest : Result Choice Refused = pick (eqb (length verified) 1) (sole_of number lenient a (first_of verified)) (rule_two number lenient a) in
         pick-case (Takes P a) (leb 2 (length verified)) (ambiguous_of number lenient a verified) rest
         (λ e. takes-ambiguous verified (omega (arith, leb-true 2 (length verified) e)) (all-group Verified))
         (λ e.
@@ -248,34 +247,33 @@ module _ (number : ℕ) (shifted anchors : List ℕ) (n : ℕ) (o : Options) (b 
   abbrev a : Assessment
   a = assessment_of lim shifted anchors n t
 
+  abbrev rule : Result Choice Refused
+  rule = rule_one number (keystream o) a
+
   -- an accepted choice is one by the rules
-  record Ruled (c : Choice) : Type 0 where
-    ruled :
-        is_accepted c.answer ≡ true
-        → (length shifted ≡ 4080) × (limit_fits lim ≡ true) × (c ≡ rule_one number (keystream o) a)
+  record Ruled (r : Result Choice Refused) : Type 0 where
+    ruled : (c : Choice) → r ≡ Ok c → (length shifted ≡ 4080) × (limit_fits lim ≡ true) × (r ≡ rule)
+
+  unruled : (e : Refused) → Ruled (Err e)
+  unruled e = record { ruled = λ c q. cc }
 
   ruled-choice : Ruled (choice_of number shifted anchors n o)
-  unfolding choice_of refused_of
+  unfolding choice_of
   ruled-choice =
-      pick-case Ruled (eqb (length shifted) 4080) (pick (limit_fits lim) (rule_one number (keystream o) a) (refused_of (answer.LimitOutOfRange lim) no_bvs))
-      (refused_of (answer.WrongBufferLength (length shifted)) no_bvs)
+      let Q : Answer → Type 0 = λ x. Ruled (unless_refused x rule) in
+      pick-case Q (eqb (length shifted) 4080) (pick (limit_fits lim) None (Some (LimitOutOfRange lim))) (Some (WrongBufferLength (length shifted)))
       (λ e.
-      pick-case Ruled (limit_fits lim) (rule_one number (keystream o) a) (refused_of (answer.LimitOutOfRange lim) no_bvs)
-      (λ w. record { ruled = λ q. (eqb-true (length shifted) 4080 e, w, refl) })
-      (λ w. record { ruled = λ q. absurd (never_both refl q) }))
-      (λ e. record { ruled = λ q. absurd (never_both refl q) })
+      pick-case Q (limit_fits lim) None (Some (LimitOutOfRange lim)) (λ w. record { ruled = λ c q. (eqb-true (length shifted) 4080 e, w, refl) })
+      (λ w. unruled _))
+      (λ e. unruled _)
 
-  pub chosen-stands :
-      is_accepted (choice_of number shifted anchors n o).answer ≡ true
-      → Chosen lim shifted anchors n t (choice_of number shifted anchors n o)
-  chosen-stands good =
-      let c : Choice = choice_of number shifted anchors n o in
-      let r = ruled-choice.ruled good in
+  pub chosen-stands : (c : Choice) → choice_of number shifted anchors n o ≡ Ok c → Chosen lim shifted anchors n t c
+  chosen-stands c good =
+      let r = ruled-choice.ruled c good in
       let long : length shifted ≡ 4080 = r.0 in
-      let rule : c ≡ rule_one number (keystream o) a = r.2 in
       let some : 0 < length shifted = omega arith in
       let k : Taking (Proper lim shifted anchors n t) a c =
-      (subst (Takes (Proper lim shifted anchors n t) a) (sym rule) (takes-ruled lim shifted anchors n t long some b number (keystream o))).made good in
+      (subst (Takes (Proper lim shifted anchors n t) a) (sym r.2 ∙ good) (takes-ruled lim shifted anchors n t long some b number (keystream o))).made in
       record {
         long = long;
         within = r.1;

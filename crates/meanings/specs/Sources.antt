@@ -1,15 +1,15 @@
 -- What a choice of bv means, in words of the page: by what its source rests on, why it is refused, and among which values it is disputed. v is
 -- a value of bv, n the stored row count, t the least that is tested, lim the search limit. Assumes nothing.
-use Rattle.std.specs.Prelude.{ℕ, ◌≤◌, ◌<◌, ◌≡◌, Bool, true, false, not, ◌&&◌, ◌||◌, List, ◌⊎◌, eqb, ltb, leb, length}
+use Rattle.std.specs.Prelude.{ℕ, ◌≤◌, ◌<◌, ◌≡◌, Bool, true, false, not, ◌&&◌, ◌||◌, Option, Some, None, unwrap_or, Result, Ok, IsOkAnd, IsErrAnd, List, ◌⊎◌, eqb, ltb, leb, length, get_or}
 use Rattle.lists.specs.Cases.{pick, flag}
-use Rattle.lists.specs.Bytes.{byte_at, plain_of, AllBytes}
+use Rattle.lists.specs.Bytes.{plain_of, AllBytes}
 use Rattle.lists.specs.Counts.{how_many, is_in}
 use Rattle.lists.specs.Pieces.{each}
-use Rattle.answers.specs.Answers.{number_of, no_bvs}
+use Rattle.answers.specs.Tables.{empty}
+use Rattle.answers.specs.Answers.{Bvs, number_of}
 use Rattle.answers.specs.Settings.{keystream, limit_fits}
-use Rattle.answers.specs.declared.kinds.Answer.{Answer}
-use Rattle.answers.specs.declared.kinds.Answer.TheVariants as answer
-use Rattle.answers.specs.declared.kinds.Bvs.{Bvs}
+use Rattle.answers.specs.declared.kinds.Refusal.{Refusal}
+use Rattle.answers.specs.declared.kinds.Refusal.TheVariants.{WrongBufferLength, AmbiguousCalibration, KeystreamUnverified, LimitOutOfRange}
 use Rattle.answers.specs.declared.trust.Source.{Source}
 use Rattle.answers.specs.declared.trust.Source.TheVariants as source
 use Rattle.answers.specs.declared.trust.Confidence.{Confidence}
@@ -21,7 +21,8 @@ use Rattle.slots.specs.Slots.{row_count_matches}
 use Rattle.votes.specs.Votes.{counts_of, top_of, is_verified}
 use Rattle.groups.specs.Groups.{above}
 use Rattle.choice.specs.declared.Choice.{Choice}
-use Rattle.choice.specs.Rules.{choice_of}
+use Rattle.choice.specs.declared.Refused.{Refused}
+use Rattle.choice.specs.Rules.{refused_answer, choice_of}
 use Rattle.meanings.specs.Values.{is_exact, exact_value, exact_sectors, votes_for, zeros_with, stands_for}
 
 -- ---- candidates
@@ -69,14 +70,19 @@ comes_before lim shifted anchors n t v w =
     (above (flag (is_verified lim shifted n t v)) (flag (is_verified lim shifted n t w))
     (above (flag (is_in v anchors)) (flag (is_in w anchors)) (above (zeros_with shifted v) (zeros_with shifted w) (ltb v w))))
 
--- the values of a table; they are, ascending and each once, just those that pass a test
+-- the value in place i of a table, 0 where there is none
+abbrev pub value_at : Bvs → ℕ → ℕ
+value_at table i = unwrap_or (get_or table.items i None) 0
+
+-- the values of a table; each place has one, and they are, ascending and each once, just those that pass a test
 abbrev pub list_of : Bvs → List ℕ
-list_of table = each (byte_at table.items) table.len
+list_of table = each (value_at table) table.len
 
 pub record Lists (p : ℕ → Bool) (table : Bvs) : Type 0 where
   pub number : table.len ≡ how_many p 256
-  pub within : (i : ℕ) → i < table.len → byte_at table.items i < 256
-  pub ascending : (i j : ℕ) → i < j → j < table.len → byte_at table.items i < byte_at table.items j
+  pub held : (i : ℕ) → i < table.len → get_or table.items i None ≡ Some (value_at table i)
+  pub within : (i : ℕ) → i < table.len → value_at table i < 256
+  pub ascending : (i j : ℕ) → i < j → j < table.len → value_at table i < value_at table j
   pub just : (v : ℕ) → v < 256 → is_in v (list_of table) ≡ p v
 
 -- ---- what decides
@@ -118,141 +124,143 @@ pub record Asked (lim : ℕ) (shifted : List ℕ) : Type 0 where
 
 -- ---- what a choice can be
 
--- how a choice is marked
-pub record Marked (c : Choice) (x : Answer) (s : Source) (k : Confidence) (w : WarningKind) : Type 0 where
-  pub answered : c.answer ≡ x
+-- how an accepted choice is marked, and a refused one
+pub record Marked (c : Choice) (s : Source) (k : Confidence) (w : Option WarningKind) : Type 0 where
   pub from : c.source ≡ s
   pub trusted : c.confidence ≡ k
   pub warned : c.warned ≡ w
 
-abbrev pub RefusedWith : Choice → Answer → Type 0
-RefusedWith c x = Marked c x source.Refused confidence.Refused warning.Nothing
+abbrev pub RefusedWith : Refused → Refusal → Type 0
+RefusedWith e x = e.refusal ≡ x
 
-module _ (number : ℕ) (shifted anchors : List ℕ) (n : ℕ) (o : Options) (c : Choice) where
+module _ (number : ℕ) (shifted anchors : List ℕ) (n : ℕ) (o : Options) where
   abbrev t : ℕ
   t = o.min_trailer_count
 
   abbrev lim : ℕ
   lim = o.search_limit
 
-  -- source 1
-  pub record ByRowCount : Type 0 where
-    pub marked : Marked c answer.Accepted source.TrailerRowCount confidence.Verified warning.Nothing
-    pub unlisted : c.group ≡ no_bvs
-    pub within : limit_fits lim ≡ true
-    pub sole : SoleVerified lim shifted anchors n t c.bv
+  module _ (c : Choice) where
+    -- source 1
+    pub record ByRowCount : Type 0 where
+      pub marked : Marked c source.TrailerRowCount confidence.Verified None
+      pub unlisted : c.others ≡ empty
+      pub within : limit_fits lim ≡ true
+      pub sole : SoleVerified lim shifted anchors n t c.bv
 
-  -- source 2
-  pub record ByExactSectors : Type 0 where
-    pub marked : Marked c answer.Accepted source.ExactSectors confidence.Calibrated warning.Nothing
-    pub unlisted : c.group ≡ no_bvs
-    pub within : limit_fits lim ≡ true
-    pub stands : Stands shifted c.bv
-    pub agreed : Agreed lim shifted n t c.bv
-    pub votes : votes_for shifted c.bv ≡ exact_sectors shifted
+    -- source 2
+    pub record ByExactSectors : Type 0 where
+      pub marked : Marked c source.ExactSectors confidence.Calibrated None
+      pub unlisted : c.others ≡ empty
+      pub within : limit_fits lim ≡ true
+      pub stands : Stands shifted c.bv
+      pub agreed : Agreed lim shifted n t c.bv
+      pub votes : votes_for shifted c.bv ≡ exact_sectors shifted
 
-  -- source 5
-  pub record ByCorroboration : Type 0 where
-    pub marked : Marked c answer.Accepted source.Corroborated confidence.Corroborated warning.Nothing
-    pub unlisted : c.group ≡ no_bvs
-    pub within : limit_fits lim ≡ true
-    pub stands : Stands shifted c.bv
-    pub unverified : NoneVerified lim shifted n t
-    pub corroborates : Corroborates shifted anchors c.bv
+    -- source 5
+    pub record ByCorroboration : Type 0 where
+      pub marked : Marked c source.Corroborated confidence.Corroborated None
+      pub unlisted : c.others ≡ empty
+      pub within : limit_fits lim ≡ true
+      pub stands : Stands shifted c.bv
+      pub unverified : NoneVerified lim shifted n t
+      pub corroborates : Corroborates shifted anchors c.bv
 
-  -- source 3 with warning 5: a dispute let through. bv is the disputed value that comes before every other, and the others stand beside it
-  pub record ByRank : Type 0 where
-    pub marked : Marked c answer.Accepted source.Histogram confidence.Unverified (warning.AmbiguousCalibration c.bv)
-    pub within : limit_fits lim ≡ true
-    pub lenient : keystream o ≡ true
-    pub stands : Stands shifted c.bv
-    pub dispute : 2 ≤ disputed_number lim shifted anchors n t
-    pub disputed : is_disputed lim shifted anchors n t c.bv ≡ true
-    pub first :
-        (v : ℕ)
-        → Other shifted c.bv v
-        → is_disputed lim shifted anchors n t v ≡ true
-        → comes_before lim shifted anchors n t c.bv v ≡ true
-    pub most : (v : ℕ) → Other shifted c.bv v → is_disputed lim shifted anchors n t v ≡ true → votes_for shifted v ≤ votes_for shifted c.bv
-    pub others : Lists (λ v. is_disputed lim shifted anchors n t v && not (eqb v c.bv)) c.group
+    -- source 3 with warning 5: a dispute let through. bv is the disputed value that comes before every other, and the others stand beside it
+    pub record ByRank : Type 0 where
+      pub marked : Marked c source.Histogram confidence.Unverified (Some (warning.AmbiguousCalibration c.bv))
+      pub within : limit_fits lim ≡ true
+      pub lenient : keystream o ≡ true
+      pub stands : Stands shifted c.bv
+      pub dispute : 2 ≤ disputed_number lim shifted anchors n t
+      pub disputed : is_disputed lim shifted anchors n t c.bv ≡ true
+      pub first :
+          (v : ℕ)
+          → Other shifted c.bv v
+          → is_disputed lim shifted anchors n t v ≡ true
+          → comes_before lim shifted anchors n t c.bv v ≡ true
+      pub most : (v : ℕ) → Other shifted c.bv v → is_disputed lim shifted anchors n t v ≡ true → votes_for shifted v ≤ votes_for shifted c.bv
+      pub others : Lists (λ v. is_disputed lim shifted anchors n t v && not (eqb v c.bv)) c.others
 
-  -- answer 5, with what is disputed beside it
-  pub record Ambiguous : Type 0 where
-    pub marked : RefusedWith c (answer.AmbiguousCalibration number)
-    pub within : limit_fits lim ≡ true
-    pub strict : keystream o ≡ false
-    pub dispute : 2 ≤ disputed_number lim shifted anchors n t
-    pub listed : Lists (is_disputed lim shifted anchors n t) c.group
+    -- source 3 with warning 6: the top, let through
+    pub record ByTop : Type 0 where
+      pub marked : Marked c source.Histogram confidence.Unverified (Some (warning.UnverifiedKeystream c.bv))
+      pub unlisted : c.others ≡ empty
+      pub within : limit_fits lim ≡ true
+      pub lenient : keystream o ≡ true
+      pub stands : Stands shifted c.bv
+      pub top : c.bv ≡ top_value shifted
+      pub undecided : Undecided lim shifted anchors n t
 
-  -- source 3 with warning 6: the top, let through
-  pub record ByTop : Type 0 where
-    pub marked : Marked c answer.Accepted source.Histogram confidence.Unverified (warning.UnverifiedKeystream c.bv)
-    pub unlisted : c.group ≡ no_bvs
-    pub within : limit_fits lim ≡ true
-    pub lenient : keystream o ≡ true
-    pub stands : Stands shifted c.bv
-    pub top : c.bv ≡ top_value shifted
-    pub undecided : Undecided lim shifted anchors n t
+  module _ (e : Refused) where
+    -- answer 5, with what is disputed beside it
+    pub record Ambiguous : Type 0 where
+      pub marked : RefusedWith e (AmbiguousCalibration number)
+      pub within : limit_fits lim ≡ true
+      pub strict : keystream o ≡ false
+      pub dispute : 2 ≤ disputed_number lim shifted anchors n t
+      pub listed : Lists (is_disputed lim shifted anchors n t) e.candidates
 
-  -- answer 6, of the top
-  pub record Unverified : Type 0 where
-    pub marked : RefusedWith c (answer.KeystreamUnverified number (top_value shifted))
-    pub unlisted : c.group ≡ no_bvs
-    pub within : limit_fits lim ≡ true
-    pub strict : keystream o ≡ false
-    pub undecided : Undecided lim shifted anchors n t
+    -- answer 6, of the top
+    pub record Unverified : Type 0 where
+      pub marked : RefusedWith e (KeystreamUnverified number (top_value shifted))
+      pub unlisted : e.candidates ≡ empty
+      pub within : limit_fits lim ≡ true
+      pub strict : keystream o ≡ false
+      pub undecided : Undecided lim shifted anchors n t
 
-  -- answer 20, and answer 2
-  pub record OutOfRange : Type 0 where
-    pub marked : RefusedWith c (answer.LimitOutOfRange lim)
-    pub unlisted : c.group ≡ no_bvs
-    pub long : length shifted ≡ 4080
-    pub outside : limit_fits lim ≡ false
+    -- answer 20, and answer 2
+    pub record OutOfRange : Type 0 where
+      pub marked : RefusedWith e (LimitOutOfRange lim)
+      pub unlisted : e.candidates ≡ empty
+      pub long : length shifted ≡ 4080
+      pub outside : limit_fits lim ≡ false
 
-  pub record WrongLength : Type 0 where
-    pub marked : RefusedWith c (answer.WrongBufferLength (length shifted))
-    pub unlisted : c.group ≡ no_bvs
-    pub wrong : length shifted ≡ 4080 → ⊥
+    pub record WrongLength : Type 0 where
+      pub marked : RefusedWith e (WrongBufferLength (length shifted))
+      pub unlisted : e.candidates ≡ empty
+      pub wrong : length shifted ≡ 4080 → ⊥
 
-  -- one of these
-  pub data Meaning : Type 0 where
-    row_count : ByRowCount → Meaning
-    exact-sectors : ByExactSectors → Meaning
-    corroborated : ByCorroboration → Meaning
-    ranked : ByRank → Meaning
-    topmost : ByTop → Meaning
-    ambiguous : Ambiguous → Meaning
-    unverified : Unverified → Meaning
-    out_of_range : OutOfRange → Meaning
-    wrong-length : WrongLength → Meaning
+  module _ (r : Result Choice Refused) where
+    -- one of these
+    pub data Meaning : Type 0 where
+      row_count : IsOkAnd r ByRowCount → Meaning
+      exact-sectors : IsOkAnd r ByExactSectors → Meaning
+      corroborated : IsOkAnd r ByCorroboration → Meaning
+      ranked : IsOkAnd r ByRank → Meaning
+      topmost : IsOkAnd r ByTop → Meaning
+      ambiguous : IsErrAnd r Ambiguous → Meaning
+      unverified : IsErrAnd r Unverified → Meaning
+      out_of_range : IsErrAnd r OutOfRange → Meaning
+      wrong-length : IsErrAnd r WrongLength → Meaning
 
-  -- what its source, or its answer, says of the page
-  pub record Said : Type 0 where
-    pub row_count : c.source ≡ source.TrailerRowCount → ByRowCount
-    pub exact-sectors : c.source ≡ source.ExactSectors → ByExactSectors
-    pub corroborated : c.source ≡ source.Corroborated → ByCorroboration
-    pub histogram : c.source ≡ source.Histogram → ByRank ⊎ ByTop
-    pub ambiguous : number_of c.answer ≡ 5 → Ambiguous
-    pub unverified : number_of c.answer ≡ 6 → Unverified
-    pub out_of_range : number_of c.answer ≡ 20 → OutOfRange
-    pub wrong-length : number_of c.answer ≡ 2 → WrongLength
+    -- what its source, or its answer, says of the page
+    pub record Said : Type 0 where
+      pub row_count : (c : Choice) → r ≡ Ok c → c.source ≡ source.TrailerRowCount → ByRowCount c
+      pub exact-sectors : (c : Choice) → r ≡ Ok c → c.source ≡ source.ExactSectors → ByExactSectors c
+      pub corroborated : (c : Choice) → r ≡ Ok c → c.source ≡ source.Corroborated → ByCorroboration c
+      pub histogram : (c : Choice) → r ≡ Ok c → c.source ≡ source.Histogram → ByRank c ⊎ ByTop c
+      pub ambiguous : number_of (refused_answer r) ≡ 5 → IsErrAnd r Ambiguous
+      pub unverified : number_of (refused_answer r) ≡ 6 → IsErrAnd r Unverified
+      pub out_of_range : number_of (refused_answer r) ≡ 20 → IsErrAnd r OutOfRange
+      pub wrong-length : number_of (refused_answer r) ≡ 2 → IsErrAnd r WrongLength
 
-  -- which page has which choice
-  pub record Made : Type 0 where
-    pub row_count : Asked lim shifted → (bv : ℕ) → SoleVerified lim shifted anchors n t bv → ByRowCount × (c.bv ≡ bv)
-    pub exact-sectors : Asked lim shifted → (bv : ℕ) → Agreed lim shifted n t bv → ByExactSectors × (c.bv ≡ bv)
-    pub corroborated :
-        Asked lim shifted
-        → (bv : ℕ)
-        → NoneVerified lim shifted n t
-        → Corroborates shifted anchors bv
-        → ByCorroboration × (c.bv ≡ bv)
-    pub ranked : Asked lim shifted → 2 ≤ disputed_number lim shifted anchors n t → keystream o ≡ true → ByRank
-    pub ambiguous : Asked lim shifted → 2 ≤ disputed_number lim shifted anchors n t → keystream o ≡ false → Ambiguous
-    pub topmost : Asked lim shifted → Undecided lim shifted anchors n t → keystream o ≡ true → ByTop
-    pub unverified : Asked lim shifted → Undecided lim shifted anchors n t → keystream o ≡ false → Unverified
-    pub out_of_range : length shifted ≡ 4080 → limit_fits lim ≡ false → OutOfRange
-    pub wrong-length : (length shifted ≡ 4080 → ⊥) → WrongLength
+    -- which page has which choice
+    pub record Made : Type 0 where
+      pub row_count : Asked lim shifted → (bv : ℕ) → SoleVerified lim shifted anchors n t bv → IsOkAnd r (λ c. ByRowCount c × (c.bv ≡ bv))
+      pub exact-sectors : Asked lim shifted → (bv : ℕ) → Agreed lim shifted n t bv → IsOkAnd r (λ c. ByExactSectors c × (c.bv ≡ bv))
+      pub corroborated :
+          Asked lim shifted
+          → (bv : ℕ)
+          → NoneVerified lim shifted n t
+          → Corroborates shifted anchors bv
+          → IsOkAnd r (λ c. ByCorroboration c × (c.bv ≡ bv))
+      pub ranked : Asked lim shifted → 2 ≤ disputed_number lim shifted anchors n t → keystream o ≡ true → IsOkAnd r ByRank
+      pub ambiguous : Asked lim shifted → 2 ≤ disputed_number lim shifted anchors n t → keystream o ≡ false → IsErrAnd r Ambiguous
+      pub topmost : Asked lim shifted → Undecided lim shifted anchors n t → keystream o ≡ true → IsOkAnd r ByTop
+      pub unverified : Asked lim shifted → Undecided lim shifted anchors n t → keystream o ≡ false → IsErrAnd r Unverified
+      pub out_of_range : length shifted ≡ 4080 → limit_fits lim ≡ false → IsErrAnd r OutOfRange
+      pub wrong-length : (length shifted ≡ 4080 → ⊥) → IsErrAnd r WrongLength
 
 -- ---- the theorems
 
@@ -276,5 +284,4 @@ pub record ChoiceMeans : Type 0 where
       → limit_fits o.search_limit ≡ true
       → bv < 256
       → ((s : ℕ) → s < 8 → (is_exact shifted s ≡ true) × (exact_value shifted s ≡ bv))
-      → let c : Choice = choice_of number shifted anchors 0 o in
-      ByExactSectors number shifted anchors 0 o c × (c.bv ≡ bv)
+      → IsOkAnd (choice_of number shifted anchors 0 o) (λ c. ByExactSectors number shifted anchors 0 o c × (c.bv ≡ bv))

@@ -1,11 +1,11 @@
 -- A SUPPLIED bv: when it is refused, how far it is trusted, and its evidence, in words of the page. Assumes nothing.
-use Rattle.std.specs.Prelude.{ℕ, ◌≤◌, ◌≡◌, Bool, true, false, List, length}
+use Rattle.std.specs.Prelude.{ℕ, ◌≤◌, ◌≡◌, Bool, true, false, Option, Some, None, Result, Ok, IsOkAnd, IsErrAnd, List, length}
 use Rattle.lists.specs.Bytes.{plain_of}
-use Rattle.answers.specs.Answers.{number_of, no_bvs}
+use Rattle.answers.specs.Tables.{empty}
+use Rattle.answers.specs.Answers.{number_of}
 use Rattle.answers.specs.Settings.{keystream, limit_fits}
-use Rattle.answers.specs.Trust.{no_grounds}
-use Rattle.answers.specs.declared.kinds.Answer.{Answer}
-use Rattle.answers.specs.declared.kinds.Answer.TheVariants as answer
+use Rattle.answers.specs.declared.kinds.Refusal.{Refusal}
+use Rattle.answers.specs.declared.kinds.Refusal.TheVariants.{WrongBufferLength, KeystreamUnverified, LimitOutOfRange}
 use Rattle.answers.specs.declared.trust.Source.TheVariants as source
 use Rattle.answers.specs.declared.trust.Confidence.{Confidence}
 use Rattle.answers.specs.declared.trust.Confidence.TheVariants as confidence
@@ -16,6 +16,8 @@ use Rattle.answers.specs.declared.notices.WarningKind.TheVariants as warning
 use Rattle.answers.specs.declared.settings.Options.{Options}
 use Rattle.slots.specs.Slots.{row_count_matches}
 use Rattle.choice.specs.declared.Choice.{Choice}
+use Rattle.choice.specs.declared.Refused.{Refused}
+use Rattle.choice.specs.Rules.{refused_answer}
 use Rattle.choice.specs.Supplied.{supplied_of}
 use Rattle.meanings.specs.Values.{votes_for, dissent_from}
 use Rattle.meanings.specs.Evidence.{EvidenceTold}
@@ -37,14 +39,13 @@ module _ (lim bv : ℕ) (shifted : List ℕ) (n t : ℕ) where
 
   -- when each piece of evidence holds of a supplied bv: "no zero mass", and no anchor
   unfoldable pub Backs : Evidence → Type 0
-  Backs evidence.Nothing = ⊥
   Backs evidence.TrailerRowCount = passes ≡ true
   Backs (evidence.ExactSectors votes dissent) = (2 ≤ votes_for shifted bv) × (votes ≡ votes_for shifted bv) × (dissent ≡ dissent_from shifted bv)
   Backs evidence.BlockAnchor = ⊥
   Backs (evidence.ZeroMass zeros lead) = ⊥
   Backs evidence.Unallocated = ⊥
 
-module _ (number bv : ℕ) (shifted : List ℕ) (n : ℕ) (o : Options) (s : Choice) where
+module _ (number bv : ℕ) (shifted : List ℕ) (n : ℕ) (o : Options) where
   abbrev t : ℕ
   t = o.min_trailer_count
 
@@ -52,90 +53,87 @@ module _ (number bv : ℕ) (shifted : List ℕ) (n : ℕ) (o : Options) (s : Cho
   lim = o.search_limit
 
   -- it is taken, so far trusted and with such a warning, and its evidence is all that holds
-  pub record TakenAs (k : Confidence) (w : WarningKind) : Type 0 where
-    pub answered : s.answer ≡ answer.Accepted
+  pub record TakenAs (k : Confidence) (w : Option WarningKind) (s : Choice) : Type 0 where
     pub value : s.bv ≡ bv
     pub from : s.source ≡ source.Supplied
     pub trusted : s.confidence ≡ k
     pub evidence : EvidenceTold (Backs lim bv shifted n t) s.grounds
-    pub unlisted : s.group ≡ no_bvs
+    pub unlisted : s.others ≡ empty
     pub warned : s.warned ≡ w
 
-  -- it is refused: no bv, no evidence, no warning
-  pub record RefusedAs (x : Answer) : Type 0 where
-    pub answered : s.answer ≡ x
-    pub value : s.bv ≡ 0
-    pub from : s.source ≡ source.Refused
-    pub trusted : s.confidence ≡ confidence.Refused
-    pub evidence : s.grounds ≡ no_grounds
-    pub unlisted : s.group ≡ no_bvs
-    pub warned : s.warned ≡ warning.Nothing
+  -- it is refused: nothing stands beside the refusal
+  pub record RefusedAs (x : Refusal) (e : Refused) : Type 0 where
+    pub answered : e.refusal ≡ x
+    pub unlisted : e.candidates ≡ empty
 
-  -- one of these
-  pub data SuppliedMeaning : Type 0 where
-    verified :
-        length shifted ≡ 4080
-        → limit_fits lim ≡ true
-        → passes lim bv shifted n t ≡ true
-        → TakenAs confidence.Verified warning.Nothing
-        → SuppliedMeaning
-    calibrated :
-        length shifted ≡ 4080
-        → limit_fits lim ≡ true
-        → passes lim bv shifted n t ≡ false
-        → Calibrates shifted bv
-        → TakenAs confidence.Calibrated warning.Nothing
-        → SuppliedMeaning
-    unverified :
-        length shifted ≡ 4080
-        → limit_fits lim ≡ true
-        → Unbacked lim bv shifted n t
-        → keystream o ≡ true
-        → TakenAs confidence.Unverified (warning.UnverifiedKeystream bv)
-        → SuppliedMeaning
-    refused :
-        length shifted ≡ 4080
-        → limit_fits lim ≡ true
-        → Unbacked lim bv shifted n t
-        → keystream o ≡ false
-        → RefusedAs (answer.KeystreamUnverified number bv)
-        → SuppliedMeaning
-    out_of_range : length shifted ≡ 4080 → limit_fits lim ≡ false → RefusedAs (answer.LimitOutOfRange lim) → SuppliedMeaning
-    wrong-length : (length shifted ≡ 4080 → ⊥) → RefusedAs (answer.WrongBufferLength (length shifted)) → SuppliedMeaning
+  module _ (r : Result Choice Refused) where
+    -- one of these
+    pub data SuppliedMeaning : Type 0 where
+      verified :
+          length shifted ≡ 4080
+          → limit_fits lim ≡ true
+          → passes lim bv shifted n t ≡ true
+          → IsOkAnd r (TakenAs confidence.Verified None)
+          → SuppliedMeaning
+      calibrated :
+          length shifted ≡ 4080
+          → limit_fits lim ≡ true
+          → passes lim bv shifted n t ≡ false
+          → Calibrates shifted bv
+          → IsOkAnd r (TakenAs confidence.Calibrated None)
+          → SuppliedMeaning
+      unverified :
+          length shifted ≡ 4080
+          → limit_fits lim ≡ true
+          → Unbacked lim bv shifted n t
+          → keystream o ≡ true
+          → IsOkAnd r (TakenAs confidence.Unverified (Some (warning.UnverifiedKeystream bv)))
+          → SuppliedMeaning
+      refused :
+          length shifted ≡ 4080
+          → limit_fits lim ≡ true
+          → Unbacked lim bv shifted n t
+          → keystream o ≡ false
+          → IsErrAnd r (RefusedAs (KeystreamUnverified number bv))
+          → SuppliedMeaning
+      out_of_range : length shifted ≡ 4080 → limit_fits lim ≡ false → IsErrAnd r (RefusedAs (LimitOutOfRange lim)) → SuppliedMeaning
+      wrong-length : (length shifted ≡ 4080 → ⊥) → IsErrAnd r (RefusedAs (WrongBufferLength (length shifted))) → SuppliedMeaning
 
-  -- what its confidence and its answer say of the page
-  pub record SuppliedSaid : Type 0 where
-    pub accepted : number_of s.answer ≡ 0 → (length shifted ≡ 4080) × (limit_fits lim ≡ true)
-    pub verified : s.confidence ≡ confidence.Verified → passes lim bv shifted n t ≡ true
-    pub calibrated : s.confidence ≡ confidence.Calibrated → (passes lim bv shifted n t ≡ false) × Calibrates shifted bv
-    pub unverified : s.confidence ≡ confidence.Unverified → Unbacked lim bv shifted n t × (keystream o ≡ true)
-    pub refused : number_of s.answer ≡ 6 → Unbacked lim bv shifted n t × (keystream o ≡ false)
-    pub out_of_range : number_of s.answer ≡ 20 → (length shifted ≡ 4080) × (limit_fits lim ≡ false)
-    pub wrong-length : number_of s.answer ≡ 2 → length shifted ≡ 4080 → ⊥
+    -- what its confidence and its answer say of the page
+    pub record SuppliedSaid : Type 0 where
+      pub accepted : number_of (refused_answer r) ≡ 0 → (length shifted ≡ 4080) × (limit_fits lim ≡ true)
+      pub verified : (s : Choice) → r ≡ Ok s → s.confidence ≡ confidence.Verified → passes lim bv shifted n t ≡ true
+      pub calibrated :
+          (s : Choice) → r ≡ Ok s → s.confidence ≡ confidence.Calibrated → (passes lim bv shifted n t ≡ false) × Calibrates shifted bv
+      pub unverified : (s : Choice) → r ≡ Ok s → s.confidence ≡ confidence.Unverified → Unbacked lim bv shifted n t × (keystream o ≡ true)
+      pub refused : number_of (refused_answer r) ≡ 6 → Unbacked lim bv shifted n t × (keystream o ≡ false)
+      pub out_of_range : number_of (refused_answer r) ≡ 20 → (length shifted ≡ 4080) × (limit_fits lim ≡ false)
+      pub wrong-length : number_of (refused_answer r) ≡ 2 → length shifted ≡ 4080 → ⊥
 
-  -- what a page makes of it
-  pub record SuppliedMade : Type 0 where
-    pub verified : length shifted ≡ 4080 → limit_fits lim ≡ true → passes lim bv shifted n t ≡ true → TakenAs confidence.Verified warning.Nothing
-    pub calibrated :
-        length shifted ≡ 4080
-        → limit_fits lim ≡ true
-        → passes lim bv shifted n t ≡ false
-        → Calibrates shifted bv
-        → TakenAs confidence.Calibrated warning.Nothing
-    pub unverified :
-        length shifted ≡ 4080
-        → limit_fits lim ≡ true
-        → Unbacked lim bv shifted n t
-        → keystream o ≡ true
-        → TakenAs confidence.Unverified (warning.UnverifiedKeystream bv)
-    pub refused :
-        length shifted ≡ 4080
-        → limit_fits lim ≡ true
-        → Unbacked lim bv shifted n t
-        → keystream o ≡ false
-        → RefusedAs (answer.KeystreamUnverified number bv)
-    pub out_of_range : length shifted ≡ 4080 → limit_fits lim ≡ false → RefusedAs (answer.LimitOutOfRange lim)
-    pub wrong-length : (length shifted ≡ 4080 → ⊥) → RefusedAs (answer.WrongBufferLength (length shifted))
+    -- what a page makes of it
+    pub record SuppliedMade : Type 0 where
+      pub verified :
+          length shifted ≡ 4080 → limit_fits lim ≡ true → passes lim bv shifted n t ≡ true → IsOkAnd r (TakenAs confidence.Verified None)
+      pub calibrated :
+          length shifted ≡ 4080
+          → limit_fits lim ≡ true
+          → passes lim bv shifted n t ≡ false
+          → Calibrates shifted bv
+          → IsOkAnd r (TakenAs confidence.Calibrated None)
+      pub unverified :
+          length shifted ≡ 4080
+          → limit_fits lim ≡ true
+          → Unbacked lim bv shifted n t
+          → keystream o ≡ true
+          → IsOkAnd r (TakenAs confidence.Unverified (Some (warning.UnverifiedKeystream bv)))
+      pub refused :
+          length shifted ≡ 4080
+          → limit_fits lim ≡ true
+          → Unbacked lim bv shifted n t
+          → keystream o ≡ false
+          → IsErrAnd r (RefusedAs (KeystreamUnverified number bv))
+      pub out_of_range : length shifted ≡ 4080 → limit_fits lim ≡ false → IsErrAnd r (RefusedAs (LimitOutOfRange lim))
+      pub wrong-length : (length shifted ≡ 4080 → ⊥) → IsErrAnd r (RefusedAs (WrongBufferLength (length shifted)))
 
 pub record SuppliedMeans : Type 0 where
   -- every supplied bv is one of the six; so its marks say what holds of the page, and what holds of the page decides it

@@ -1,43 +1,15 @@
-// Bytes copied, and one byte many times.
-ghost use Rattle.std.specs.Prelude.{◌≡◌, length, replicate};
-ghost use Rattle.numbers.specs.Writes.{Wrote, copied};
+// Bytes put at a place of a buffer, and zeros.
+ghost use Rattle.std.specs.Prelude.{◌≡◌, ◌+◌, ◌≤◌, ◌<◌, length, replicate, MatchOption};
+ghost use Rattle.numbers.specs.Writes.{Wrote};
 
-// All of `out`, where it is as long as `from`; else it stays as it is.
-pub fn copy(from: &[u8], out: &mut [u8])
-    ensures { out.new ≡ copied from.now out.old }
-{
-    if from.len() != out.len() {
-        return;
-    }
-    let mut i: usize = 0;
-    while i < from.len() {
-        out[i] = from[i];
-        i += 1;
-    }
-}
-
-// One byte at every place.
-pub fn fill(out: &mut [u8], x: u8)
-    ensures { out.new ≡ replicate (length out.old) x }
-{
-    let mut i: usize = 0;
-    while i < out.len() {
-        out[i] = x;
-        i += 1;
-    }
-}
-
+// Where they fit.
 pub fn put_bytes(out: &mut [u8], at: usize, bytes: &[u8]) -> usize
     ensures { Wrote out.old at bytes.now out.new result }
 {
-    if out.len() < bytes.len() {
+    let Some(end) = end_within(out, at, bytes.len()) else {
         return at;
-    }
-    if out.len() - bytes.len() < at {
-        return at;
-    }
-    let end = at + bytes.len();
-    copy(bytes, &mut out[at..end]);
+    };
+    out[at..end].copy_from_slice(bytes);
     end
 }
 
@@ -45,13 +17,16 @@ pub fn put_bytes(out: &mut [u8], at: usize, bytes: &[u8]) -> usize
 pub fn put_zeros(out: &mut [u8], at: usize, n: usize) -> usize
     ensures { Wrote out.old at (replicate n 0) out.new result }
 {
-    if out.len() < n {
+    let Some(end) = end_within(out, at, n) else {
         return at;
-    }
-    if out.len() - n < at {
-        return at;
-    }
-    let end = at + n;
-    fill(&mut out[at..end], 0);
+    };
+    out[at..end].fill(0);
     end
+}
+
+// Where n bytes from a place on end, if they lie within the buffer.
+pub(crate) fn end_within(out: &[u8], at: usize, n: usize) -> Option<usize>
+    ensures { MatchOption result (length out.now < at + n) (λ end. (end ≡ at + n) × (end ≤ length out.now)) }
+{
+    at.checked_add(n).filter(|end| *end <= out.len())
 }

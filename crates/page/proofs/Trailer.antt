@@ -1,16 +1,14 @@
--- Laws of the trailer, in the order of the code's tests. Assumes nothing.
+-- Laws of the reserved bytes, in the order of the code's tests. Assumes nothing.
 use Prim.Native.Nat.{ℕ}
 use mathlib.Core.Path.{◌≡◌, ◌∙◌, sym}
 use mathlib.Core.Bool.{false}
 use mathlib.Core.List.{List}
 use borrow.Author.Tests.{eq-eqb, ne_eqb}
 use lib.Dec.{eqb}
-use lib.ListN.{length}
 use Rattle.lists.specs.Bytes.{byte_at, quad_at}
 use Rattle.lists.specs.Counts.{all_are}
-use Rattle.answers.specs.declared.kinds.Answer.TheVariants as answer
-use Rattle.page.specs.Trailer.{reserved_zero_of, trailer_of, blank_trailer, trailer_answer}
-use Rattle.page.proofs.Zeros.{four-zero}
+use Rattle.page.specs.Trailer.{reserved_zero_of}
+use Rattle.page.proofs.Zeros.{four_zero}
 
 module _ (s : List ℕ) where
   pub reserved-third : (byte_at s 0xFF3 ≡ 0 → ⊥) → reserved_zero_of s ≡ false
@@ -20,12 +18,4 @@ module _ (s : List ℕ) where
   pub reserved-others : byte_at s 0xFF3 ≡ 0 → eqb (quad_at s 0xFF8) 0 ≡ reserved_zero_of s
   unfolding reserved_zero_of all_are
   reserved-others e =
-      four-zero (byte_at s 0xFF8) (byte_at s 0xFF9) (byte_at s 0xFFA) (byte_at s 0xFFB) ∙ rw (eq-eqb 0 (byte_at s 0xFF3) (sym e))
-
-  pub trailer-length : (length s ≡ 4096 → ⊥) → trailer_answer s ≡ record { answer = answer.WrongPageLength (length s); trailer = blank_trailer }
-  unfolding trailer_answer
-  trailer-length n = rw (ne_eqb (length s) 4096 n)
-
-  pub trailer-read : length s ≡ 4096 → trailer_answer s ≡ record { answer = answer.Accepted; trailer = trailer_of s }
-  unfolding trailer_answer
-  trailer-read e = rw (eq-eqb (length s) 4096 e)
+      four_zero (byte_at s 0xFF8) (byte_at s 0xFF9) (byte_at s 0xFFA) (byte_at s 0xFFB) ∙ rw (eq-eqb 0 (byte_at s 0xFF3) (sym e))

@@ -17,9 +17,9 @@ same_test false true f g = g refl
 same_test false false f g = refl
 
 -- four bytes are zero if the number that they are is 0
-pub four-zero : (a b c d : ℕ) → eqb (four_bytes a b c d) 0 ≡ all_are 0 (a ∷ b ∷ c ∷ d ∷ [])
+pub four_zero : (a b c d : ℕ) → eqb (four_bytes a b c d) 0 ≡ all_are 0 (a ∷ b ∷ c ∷ d ∷ [])
 unfolding all_are
-four-zero a b c d = same_test _ _ there back
+four_zero a b c d = same_test _ _ there back
   where
     there : eqb (four_bytes a b c d) 0 ≡ true → all_are 0 (a ∷ b ∷ c ∷ d ∷ []) ≡ true
     there e =

@@ -1,10 +1,10 @@
 -- Document 01, "Page, trailer, superblock" and "Answer numbers": unallocated pages, and answers 1, 3 and 4. Assumes nothing.
-use Rattle.std.specs.Prelude.{ℕ, Bool, true, false, not, List, eqb, length, take}
+use Rattle.std.specs.Prelude.{ℕ, Bool, true, false, not, List, Some, None, eqb, length, take}
 use Rattle.lists.specs.Cases.{pick}
 use Rattle.lists.specs.Counts.{all_are}
 use Rattle.checksum.specs.V42.{crc32_of}
-use Rattle.answers.specs.declared.kinds.Answer.{Answer}
-use Rattle.answers.specs.declared.kinds.Answer.TheVariants.{Accepted, WrongPageLength, BadCrc, BadTrailer}
+use Rattle.answers.specs.declared.kinds.Refusal.TheVariants.{WrongPageLength, BadCrc, BadTrailer}
+use Rattle.answers.specs.Answers.{Answer}
 use Rattle.page.specs.Trailer.{is_page, stored_crc, reserved_zero_of}
 
 -- unallocated: all 4,096 bytes are zero
@@ -22,10 +22,10 @@ trailer_holds number s = pick (eqb number 0) true (reserved_zero_of s)
 -- of a page that was written, in this order: 1, 3, 4
 unfoldable pub written_integrity : ℕ → List ℕ → Answer
 written_integrity number s =
-    pick (not (is_page s)) (WrongPageLength (length s))
-    (pick (not (eqb (stored_crc s) (computed_crc s))) (BadCrc number (stored_crc s) (computed_crc s))
-    (pick (not (trailer_holds number s)) (BadTrailer number) Accepted))
+    pick (not (is_page s)) (Some (WrongPageLength (length s)))
+    (pick (not (eqb (stored_crc s) (computed_crc s))) (Some (BadCrc number (stored_crc s) (computed_crc s)))
+    (pick (not (trailer_holds number s)) (Some (BadTrailer number)) None))
 
 -- of any page: an unallocated one is accepted
 unfoldable pub integrity_of : ℕ → List ℕ → Answer
-integrity_of number s = pick (is_unallocated s) Accepted (written_integrity number s)
+integrity_of number s = pick (is_unallocated s) None (written_integrity number s)

@@ -1,15 +1,14 @@
 -- Document 01, "Page, trailer, superblock": the fields of page 0, read plainly and checked. Assumes nothing.
-use Rattle.std.specs.Prelude.{ℕ, ◌-◌, Bool, false, not, List, [], ◌∷◌, eqb, length}
+use Rattle.std.specs.Prelude.{ℕ, ◌-◌, Bool, false, not, List, [], ◌∷◌, Result, Ok, Err, eqb, length}
 use Rattle.std.specs.Int.Bits.{bit_and}
 use Rattle.lists.specs.Cases.{pick}
 use Rattle.lists.specs.Bytes.{byte_at, pair_at, quad_at}
 use Rattle.marker.specs.Marker.{occurs_in}
-use Rattle.answers.specs.declared.kinds.Answer.{Answer}
-use Rattle.answers.specs.declared.kinds.Answer.TheVariants.{Accepted, WrongPageLength, BadMagic}
+use Rattle.answers.specs.declared.kinds.Refusal.{Refusal}
+use Rattle.answers.specs.declared.kinds.Refusal.TheVariants.{WrongPageLength, BadMagic}
 use Rattle.page.specs.Trailer.{is_page}
 use Rattle.page.specs.declared.superblocks.FormatVersion.{FormatVersion}
 use Rattle.page.specs.declared.superblocks.Superblock.{Superblock}
-use Rattle.page.specs.declared.superblocks.SuperblockAnswer.{SuperblockAnswer}
 
 -- the supported version, 3.201.12
 abbrev pub sa17 : FormatVersion
@@ -47,31 +46,12 @@ superblock_of stored =
       sa_marker_present = occurs_in marker stored;
     }
 
--- what stands beside a refusal
-abbrev pub blank_superblock : Superblock
-blank_superblock =
-    record {
-      flags_06 = 0;
-      flags_06_variant_bits = 0;
-      current_lsn = 0;
-      format = record { major = 0; a = 0; b = 0 };
-      magic = 0;
-      page_count_hint = 0;
-      sa_marker_present = false;
-    }
-
-abbrev pub refused_superblock : Answer → SuperblockAnswer
-refused_superblock a = record { answer = a; superblock = blank_superblock }
-
-abbrev pub accepted_superblock : List ℕ → SuperblockAnswer
-accepted_superblock stored = record { answer = Accepted; superblock = superblock_of stored }
-
 -- plainly: 1
-unfoldable pub superblock_answer : List ℕ → SuperblockAnswer
-superblock_answer stored = pick (not (is_page stored)) (refused_superblock (WrongPageLength (length stored))) (accepted_superblock stored)
+unfoldable pub superblock_answer : List ℕ → Result Superblock Refusal
+superblock_answer stored = pick (not (is_page stored)) (Err (WrongPageLength (length stored))) (Ok (superblock_of stored))
 
 -- checked: 1, then 13 with any magic but 0xDA7ABA5E
-unfoldable pub checked_superblock : List ℕ → SuperblockAnswer
+unfoldable pub checked_superblock : List ℕ → Result Superblock Refusal
 checked_superblock stored =
-    pick (not (is_page stored)) (refused_superblock (WrongPageLength (length stored)))
-    (pick (not (eqb (magic_of stored) 0xDA7ABA5E)) (refused_superblock (BadMagic (magic_of stored))) (accepted_superblock stored))
+    pick (not (is_page stored)) (Err (WrongPageLength (length stored)))
+    (pick (not (eqb (magic_of stored) 0xDA7ABA5E)) (Err (BadMagic (magic_of stored))) (Ok (superblock_of stored)))

@@ -1,13 +1,12 @@
 -- Document 01, "Page, trailer, superblock": a page's length, and the trailer, its last 16 bytes. Assumes nothing.
-use Rattle.std.specs.Prelude.{ℕ, ◌+◌, Bool, false, not, List, [], ◌∷◌, eqb, length}
+use Rattle.std.specs.Prelude.{ℕ, ◌+◌, Bool, not, List, [], ◌∷◌, Result, Ok, Err, eqb, length}
 use Rattle.lists.specs.Cases.{pick}
 use Rattle.lists.specs.Bytes.{byte_at, quad_at}
 use Rattle.lists.specs.Counts.{all_are}
-use Rattle.answers.specs.declared.kinds.Answer.TheVariants as answer
+use Rattle.answers.specs.declared.kinds.Refusal.{Refusal}
+use Rattle.answers.specs.declared.kinds.Refusal.TheVariants.{WrongPageLength}
 use Rattle.page_type.specs.Types.{is_variant, type_of}
-use Rattle.page_type.specs.declared.PageType.TheVariants.{Other}
 use Rattle.page.specs.declared.trailers.PageTrailer.{PageTrailer}
-use Rattle.page.specs.declared.trailers.TrailerAnswer.{TrailerAnswer}
 
 -- a page is 4,096 bytes
 abbrev pub is_page : List ℕ → Bool
@@ -56,21 +55,6 @@ trailer_of stored =
       reserved_zero = reserved_zero_of stored;
     }
 
--- what stands beside a refusal
-abbrev pub blank_trailer : PageTrailer
-blank_trailer =
-    record {
-      row_count = 0;
-      page_type = Other 0;
-      case_variant = false;
-      lsn = 0;
-      crc = 0;
-      reserved_zero = false;
-    }
-
 -- 1 with the length; else the record
-unfoldable pub trailer_answer : List ℕ → TrailerAnswer
-trailer_answer stored =
-    pick (not (is_page stored))
-    (record { answer = answer.WrongPageLength (length stored); trailer = blank_trailer })
-    (record { answer = answer.Accepted; trailer = trailer_of stored })
+unfoldable pub trailer_answer : List ℕ → Result PageTrailer Refusal
+trailer_answer stored = pick (not (is_page stored)) (Err (WrongPageLength (length stored))) (Ok (trailer_of stored))

@@ -12,5 +12,5 @@ mod superblocks;
 mod trailers;
 
 pub use integrity::{check_integrity, check_written, is_unallocated};
-pub use superblocks::{FormatVersion, SA_MAGIC, Superblock, SuperblockAnswer};
-pub use trailers::{PAGE_SIZE, PageTrailer, TrailerAnswer};
+pub use superblocks::{FormatVersion, SA_MAGIC, Superblock};
+pub use trailers::{PAGE_SIZE, PageTrailer};

@@ -1,9 +1,9 @@
 // The trailer: the last 16 bytes of a stored page, from 0xFF0 on. They are stored plain: no sector covers them.
 ghost use Rattle.std.specs.Prelude.{◌≡◌, length};
-ghost use Rattle.page.specs.Trailer.{trailer_of, blank_trailer, reserved_zero_of, trailer_answer};
+ghost use Rattle.page.specs.Trailer.{trailer_of, reserved_zero_of, trailer_answer};
 
 use crate::fields::quad;
-use answers::Answer;
+use answers::Refusal;
 use page_type::{PageType, case_variant};
 
 // Eight sectors of 512 bytes, the last cut short by the trailer.
@@ -19,30 +19,19 @@ pub struct PageTrailer {
     pub reserved_zero: bool,
 }
 
-// A refusal has a blank record.
-#[derive(Clone, Copy)]
-pub struct TrailerAnswer {
-    pub answer: Answer,
-    pub trailer: PageTrailer,
-}
-
 impl PageTrailer {
-    pub fn parse(stored: &[u8]) -> TrailerAnswer
+    #[tactic(auto, unfolding(crate::specs::Trailer::trailer_answer))]
+    pub fn parse(stored: &[u8]) -> Result<PageTrailer, Refusal>
         ensures { result ≡ trailer_answer stored.now }
     {
         if stored.len() != PAGE_SIZE {
-            return TrailerAnswer {
-                answer: Answer::WrongPageLength(stored.len()),
-                trailer: blank(),
-            };
+            return Err(Refusal::WrongPageLength(stored.len()));
         }
-        TrailerAnswer {
-            answer: Answer::Accepted,
-            trailer: record(stored),
-        }
+        Ok(record(stored))
     }
 }
 
+#[tactic(auto, unfolding(crate::specs::Trailer::trailer_of))]
 fn record(stored: &[u8]) -> PageTrailer
     requires { length stored.now ≡ 4096 }
     ensures { result ≡ trailer_of stored.now }
@@ -58,25 +47,9 @@ fn record(stored: &[u8]) -> PageTrailer
     }
 }
 
-fn blank() -> PageTrailer
-    ensures { result ≡ blank_trailer }
-{
-    PageTrailer {
-        row_count: 0,
-        page_type: PageType::Other(0),
-        case_variant: false,
-        lsn: 0,
-        crc: 0,
-        reserved_zero: false,
-    }
-}
-
 pub(crate) fn reserved_zero(stored: &[u8]) -> bool
     requires { length stored.now ≡ 4096 }
     ensures { result ≡ reserved_zero_of stored.now }
 {
-    if stored[0xFF3] != 0 {
-        return false;
-    }
-    quad(stored, 0xFF8) == 0
+    stored[0xFF3] == 0 && quad(stored, 0xFF8) == 0
 }

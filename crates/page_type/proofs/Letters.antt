@@ -1,11 +1,13 @@
 -- Laws of page types: the code's cases, and what reading a type byte and writing it back keeps. Assumes nothing.
-use Prim.Native.Nat.{ℕ, ◌-◌, ◌≤◌, ◌<◌}
+use Prim.Native.Nat.{ℕ, ◌-◌, ◌≤◌}
 use mathlib.Core.Path.{◌≡◌, refl, sym, ap, ◌∙◌}
 use mathlib.Core.Bool.{Bool, true, false}
 use mathlib.Core.Logic.{◌⊎◌, inl, inr, ⊎_elim, ◌↔◌}
 use native.Mathlib.Omega.{arith}
-use borrow.Author.Tests.{le-leb, lt-leb, leb-true, eqb-true}
+use borrow.Author.Tests.{le-leb, leb-true, eqb-true}
 use lib.Dec.{eqb, leb}
+use Rattle.std.specs.Char.{to_ascii_uppercase}
+use Rattle.std.proofs.lemmas.Bool.Decides.{nat_tests}
 use Rattle.lists.specs.Cases.{pick}
 use Rattle.lists.proofs.Picks.{pick-case, never_both}
 use Rattle.page_type.specs.Types.{is_variant, upper_of, letter_of, type_of, byte_of}
@@ -16,17 +18,13 @@ use Rattle.page_type.specs.declared.PageType.TheVariants.{Extent, Alloc, Map, He
 variant-letter : (b : ℕ) → 0x61 ≤ b → b ≤ 0x7A → is_variant b ≡ true
 variant-letter b h k = rw (le-leb 0x61 b h, le-leb b 0x7A k)
 
-pub upper-below : (b : ℕ) → b < 0x61 → upper_of b ≡ b
+-- the library's upper case is the rule's
+pub upper_is : (b u : ℕ) → u ≡ to_ascii_uppercase b → u ≡ upper_of b
 unfolding upper_of
-upper-below b h = rw (lt-leb 0x61 b h)
-
-pub upper-above : (b : ℕ) → 0x7A < b → upper_of b ≡ b
-unfolding upper_of
-upper-above b h = rw (le-leb 0x61 b (omega arith), lt-leb b 0x7A h)
-
-pub upper-letter : (b : ℕ) → 0x61 ≤ b → b ≤ 0x7A → upper_of b ≡ b - 0x20
-unfolding upper_of
-upper-letter b h k = rw (variant-letter b h k)
+upper_is b u e = e ∙ go
+  where
+    go : to_ascii_uppercase b ≡ pick (is_variant b) (b - 0x20) b
+    go = grind (arith, nat_tests)
 
 upper-plain : (b : ℕ) → is_variant b ≡ false → upper_of b ≡ b
 unfolding upper_of

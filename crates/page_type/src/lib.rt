@@ -2,9 +2,9 @@
 #![tactic(auto)]
 
 ghost use Rattle.std.specs.Prelude.{◌≡◌};
-ghost use Rattle.page_type.specs.Types.{is_variant, upper_of, type_of, byte_of};
+ghost use Rattle.page_type.specs.Types.{is_variant, type_of, byte_of};
 
-#[derive(Clone, Copy)]
+#[derive(Clone, Copy, PartialEq, Eq)]
 pub enum PageType {
     Extent,
     Alloc,
@@ -21,7 +21,7 @@ impl PageType {
     pub fn from_byte(b: u8) -> Self
         ensures { result ≡ type_of b }
     {
-        match upper(b) {
+        match b.to_ascii_uppercase() {
             b'E' => PageType::Extent,
             b'A' => PageType::Alloc,
             b'M' => PageType::Map,
@@ -53,21 +53,5 @@ impl PageType {
 pub fn case_variant(b: u8) -> bool
     ensures { result ≡ is_variant b }
 {
-    if b < b'a' {
-        return false;
-    }
-    b <= b'z'
-}
-
-// A lower-case letter's upper-case form, which is 0x20 less; any other byte as it is.
-fn upper(b: u8) -> u8
-    ensures { result ≡ upper_of b }
-{
-    if b < b'a' {
-        return b;
-    }
-    if b'z' < b {
-        return b;
-    }
-    b - 0x20
+    b.is_ascii_lowercase()
 }

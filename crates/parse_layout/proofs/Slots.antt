@@ -1,19 +1,24 @@
 -- The slots of a directory, copied from the page with zeros behind them, are its table. Assumes nothing.
 use Prim.Native.Nat.{ℕ, ◌+◌, ◌-◌, ◌*◌, ◌≤◌, ◌<◌}
 use mathlib.Core.Path.{◌≡◌, sym, ap, ◌∙◌}
-use mathlib.Core.List.{List, ◌++◌}
+use mathlib.Core.List.{List, [], ◌++◌}
 use native.Mathlib.Omega.{arith}
 use lib.ListN.{length, take, drop, replicate, length-append, length-drop, length-replicate, get_or-append}
 use lib.Seq.{length-take-le, get_or-append-add}
 use Rattle.lists.specs.Bytes.{byte_at, pair_at}
 use Rattle.lists.proofs.Each.{each-length, each_at}
 use Rattle.lists.proofs.Zeros.{zeros-at}
+use Rattle.std.proofs.Common.{None, refl}
+use Rattle.lists.specs.Pieces.{each}
+use Rattle.numbers.specs.Numbers.{little_bytes}
+use Rattle.numbers.specs.Writes.{Wrote}
+use Rattle.numbers.proofs.Stored.{wrote-same}
 use Rattle.directory.specs.Directory.{slots_of}
 use Rattle.slotted.specs.Parses.{table_of}
-use Rattle.fields.specs.Fields.{layout_bytes}
+use Rattle.fields.specs.Fields.{layout_bytes, field_bytes}
 use Rattle.fields.proofs.Pairs.{pairs-padded, page-bytes}
 use Rattle.parts.specs.Parts.{slots_size, slots_fields}
-use Rattle.parse_layout.specs.FromPage.{padded_slots}
+use Rattle.parse_layout.specs.FromPage.{listed_fields, found_fields, listed_or_zeros, padded_slots}
 
 -- padded bytes fill their table
 pub padded-long : (bytes : List ℕ) → length bytes ≤ slots_size → length (padded_slots bytes) ≡ slots_size
@@ -47,3 +52,11 @@ module _ (plain : List ℕ) (start count : ℕ) (few : count ≤ 1024) where
       let n : length part ≡ 2 * count = ap length e ∙ length-take-le (2 * count) (drop start plain) (omega (arith, length-drop start plain)) in
       ap (λ (u : List ℕ). u ++ replicate (slots_size - length part) 0) (e ∙ sym (page-bytes (table_of slots) plain start bytes count h table_at))
       ∙ pairs-padded (table_of slots) count (slots_size - length part) 1024 few (omega arith) table-behind
+
+-- no directory is zeros
+none-zeros : (plain : List ℕ) → replicate (10 + slots_size) 0 ≡ layout_bytes (listed_or_zeros plain None)
+unfolding found_fields listed_fields layout_bytes field_bytes little_bytes each
+none-zeros plain = ap (λ (l : List ℕ). replicate 10 0 ++ l) (slots-padded [] 0 0 (omega arith) [] (λ i. omega arith) (omega arith) refl)
+
+pub no-directory : (plain : List ℕ) {l after : List ℕ} {a next : ℕ} → Wrote l a (replicate (10 + slots_size) 0) after next → Wrote l a (layout_bytes (listed_or_zeros plain None)) after next
+no-directory plain w = wrote-same (none-zeros plain) w

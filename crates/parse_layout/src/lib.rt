@@ -2,21 +2,21 @@
 // between: whoever calls may be short of stack.
 #![tactic(auto)]
 
-ghost use Rattle.std.specs.Prelude.{◌≡◌, ◌+◌, ◌*◌, ◌≤◌, length};
+ghost use Rattle.std.specs.Prelude.{◌≡◌, ◌+◌, ◌*◌, ◌≤◌, true, IfSome, length};
 ghost use Rattle.numbers.specs.Writes.{Wrote};
 ghost use Rattle.fields.specs.Fields.{layout_bytes, Put};
 ghost use Rattle.parts.specs.Parts.{slots_size};
 ghost use Rattle.answers.specs.Settings.{directory};
 ghost use Rattle.directory.specs.Directory.{Sound};
 ghost use Rattle.slotted.specs.Parses.{parsed_of};
-ghost use Rattle.parse_layout.specs.ParseLayouts.{declared_flag, declared_count, parse_bytes};
-ghost use Rattle.parse_layout.specs.FromPage.{listed_fields, found_fields, padded_slots, given_fields};
+ghost use Rattle.parse_layout.specs.ParseLayouts.{parse_bytes};
+ghost use Rattle.parse_layout.specs.FromPage.{listed_fields, found_fields, listed_or_zeros, padded_slots, given_fields};
 
-use answers::Options;
-use directory::{Declared, Listed};
-use numbers::{put_bool, put_bytes, put_size16, put_u8, put_zeros};
-use parts::{ANSWER_SIZE, SLOTS_SIZE, WARNING_SIZE, put_answer, put_warning};
-use slotted::{Given, locate};
+use answers::{Options, Table, Warning};
+use directory::Listed;
+use numbers::{Number, put_bytes, put_low, put_zeros};
+use parts::{ANSWER_SIZE, SLOTS_SIZE, WARNING_SIZE, put_all, put_answer};
+use slotted::{Located, locate};
 
 const DIRECTORY_SIZE: usize = 10 + SLOTS_SIZE;
 
@@ -30,19 +30,31 @@ pub fn write_parse(out: &mut [u8], number: u64, plain: &[u8], options: Options) 
     if out.len() < PARSE_SIZE {
         return 0;
     }
-    let l = locate(number, plain, options);
-    let x = l.answer;
-    let listed = l.listed;
-    let given = l.warnings;
-    let at = put_answer(out, 0, x);
-    let at = put_directory(out, at, plain, listed);
-    put_given(out, at, given)
+    let located = locate(number, plain, options);
+    let at = put_answer(out, 0, located.err());
+    // Beside a refusal stands nothing: zeros.
+    let l = located.unwrap_or(Located {
+        listed: None,
+        warnings: Table::none(),
+    });
+    let at = put_directory(out, at, plain, l.listed);
+    put_given(out, at, l.warnings)
 }
 
-// The directory with its slots: all of it, or nothing.
-fn put_directory(out: &mut [u8], at: usize, plain: &[u8], l: Listed) -> usize
-    requires { Sound plain.now l.start l.count × (l.count ≤ 1024) }
-    ensures { Wrote out.old at (layout_bytes (found_fields plain.now l)) out.new result }
+// The directory with its slots, or zeros: all of it, or nothing.
+fn put_directory(out: &mut [u8], at: usize, plain: &[u8], listed: Option<Listed>) -> usize
+    requires { IfSome listed (λ l. Sound plain.now l.start l.count × (l.count ≤ 1024)) }
+    ensures { Wrote out.old at (layout_bytes (listed_or_zeros plain.now listed)) out.new result }
+{
+    match listed {
+        Some(l) => put_found(out, at, plain, l),
+        None => put_zeros(out, at, DIRECTORY_SIZE),
+    }
+}
+
+fn put_found(out: &mut [u8], at: usize, plain: &[u8], l: Listed) -> usize
+    requires { (l.start + 2 * l.count ≤ length plain.now) × (l.count ≤ 1024) }
+    ensures { Wrote out.old at (layout_bytes (found_fields plain.now true l)) out.new result }
 {
     if out.len() < DIRECTORY_SIZE {
         return at;
@@ -58,17 +70,16 @@ fn put_directory(out: &mut [u8], at: usize, plain: &[u8], l: Listed) -> usize
 
 fn put_listed(out: &mut [u8], at: usize, l: Listed, end: usize) -> usize
     requires { end ≡ l.start + 2 * l.count }
-    ensures { Put out.old at (listed_fields l) out.new result }
+    ensures { Put out.old at (listed_fields true l) out.new result }
 {
-    let declared = l.declared;
-    let is_declared = declared_flag(declared);
-    let declared_number = declared_count(declared);
-    let at = put_bool(out, at, l.found);
-    let at = put_size16(out, at, l.start);
-    let at = put_size16(out, at, end);
-    let at = put_size16(out, at, l.count);
-    let at = put_u8(out, at, is_declared);
-    put_size16(out, at, declared_number)
+    let is_declared = l.declared.is_some();
+    let declared = l.declared.unwrap_or(0);
+    let at = true.put(out, at);
+    let at = put_low::<2>(out, at, l.start as u64);
+    let at = put_low::<2>(out, at, end as u64);
+    let at = put_low::<2>(out, at, l.count as u64);
+    let at = is_declared.put(out, at);
+    put_low::<2>(out, at, declared as u64)
 }
 
 // In the page a slot stands as in the layout, two bytes with the least first, so all are copied at once.
@@ -86,32 +97,9 @@ fn put_slots(out: &mut [u8], at: usize, slots: &[u8]) -> usize
     put_zeros(out, at, SLOTS_SIZE - slots.len())
 }
 
-fn put_given(out: &mut [u8], at: usize, given: Given) -> usize
+fn put_given(out: &mut [u8], at: usize, given: Table<Warning, 3>) -> usize
     ensures { Put out.old at (given_fields given) out.new result }
 {
-    let first = given.first;
-    let second = given.second;
-    let third = given.third;
-    let at = put_size16(out, at, given.len);
-    let at = put_warning(out, at, first);
-    let at = put_warning(out, at, second);
-    put_warning(out, at, third)
-}
-
-fn declared_flag(d: Declared) -> u8
-    ensures { result ≡ declared_flag d }
-{
-    match d {
-        Declared::Count(_) => 1,
-        Declared::Scanned => 0,
-    }
-}
-
-fn declared_count(d: Declared) -> usize
-    ensures { result ≡ declared_count d }
-{
-    match d {
-        Declared::Count(n) => n,
-        Declared::Scanned => 0,
-    }
+    let at = put_low::<2>(out, at, given.len as u64);
+    put_all(out, at, &given.items)
 }

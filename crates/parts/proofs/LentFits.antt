@@ -1,7 +1,7 @@
 -- Laws of lent fits: what the loop over their marks has seen, and that each is told as it was lent. Assumes nothing.
 use Prim.Native.Nat.{ℕ, zero, suc, ◌+◌, ◌*◌, ◌%◌, ◌≤◌, ◌<◌}
 use mathlib.Core.Path.{◌≡◌, refl, ap, ◌∙◌}
-use mathlib.Core.Bool.{true, false, not}
+use mathlib.Core.Bool.{Bool, true, false, not}
 use mathlib.Core.List.{List, [], ◌∷◌}
 use native.Mathlib.Omega.{arith}
 use borrow.Author.Tests.{eq-eqb, ne_eqb, lt-ltb, le-ltb}
@@ -14,7 +14,10 @@ use Rattle.lists.proofs.Many.{many-none, many-yes, many-no, many-grows}
 use Rattle.numbers.specs.Numbers.{little_bytes}
 use Rattle.fields.specs.Fields.{field_bytes, layout_bytes}
 use Rattle.parts.specs.Parts.{fit_size, fits_size, fit_fields}
-use Rattle.parts.specs.Lent.{is_no_mark, is_lent, fit_in}
+use Rattle.parts.specs.Lent.{is_no_mark, is_lent, fit_in, fits_in, fits_lent}
+use Rattle.sector.specs.declared.fits.Fit.{Fit}
+use Rattle.std.proofs.Common.{Some, None}
+use Rattle.lists.specs.Cases.{pick}
 
 -- the first s fits are marked by 0 or 1
 pub record MarksSeen (b : List ℕ) (s : ℕ) : Type 0 where
@@ -46,6 +49,22 @@ module _ (b : List ℕ) where
     lent-all n h =
         let z : 8 ≡ s = omega (arith, m.within) in
         rw (eq-eqb (length b) fits_size n, eq-eqb (how_many (is_no_mark b) 8) 0 (ap (how_many (is_no_mark b)) z ∙ m.others)) refl
+
+-- what is known of bytes that are lent as fits, and of bytes that are not
+module _ (b : List ℕ) where
+  pub lent-some : (fits : List Fit) → Some fits ≡ fits_lent b → (is_lent b ≡ true) × (fits ≡ fits_in b)
+  lent-some fits e = go (is_lent b) refl e
+    where
+      go : (t : Bool) → is_lent b ≡ t → Some fits ≡ pick t (Some (fits_in b)) None → (is_lent b ≡ true) × (fits ≡ fits_in b)
+      go true p f = (p, cc)
+      go false p f = cc
+
+  pub lent-none : None ≡ fits_lent b → is_lent b ≡ false
+  lent-none e = go (is_lent b) refl e
+    where
+      go : (t : Bool) → is_lent b ≡ t → None ≡ pick t (Some (fits_in b)) None → is_lent b ≡ false
+      go true p f = cc
+      go false p f = p
 
 -- a fit that was lent is told as it was lent, byte for byte
 four : {a b c d a' b' c' d' : ℕ} {l l' : List ℕ} → a ≡ a' → b ≡ b' → c ≡ c' → d ≡ d' → l ≡ l' → a ∷ b ∷ c ∷ d ∷ l ≡ a' ∷ b' ∷ c' ∷ d' ∷ l'

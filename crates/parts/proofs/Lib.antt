@@ -2,3 +2,4 @@
 pub mod Sizes
 pub mod Heads
 pub mod LentFits
+pub mod Zeros

@@ -1,5 +1,5 @@
 -- Fits that a caller lends as bytes. Assumes nothing.
-use Rattle.std.specs.Prelude.{ℕ, ◌+◌, ◌*◌, Bool, not, ◌&&◌, List, eqb, ltb, length}
+use Rattle.std.specs.Prelude.{ℕ, ◌+◌, ◌*◌, Bool, not, ◌&&◌, List, eqb, ltb, length, Option, Some, None}
 use Rattle.lists.specs.Cases.{pick}
 use Rattle.lists.specs.Bytes.{byte_at}
 use Rattle.lists.specs.Counts.{how_many}
@@ -29,3 +29,7 @@ is_no_mark b s = ltb 1 (byte_at b (fit_size * s + 5))
 
 unfoldable pub is_lent : List ℕ → Bool
 is_lent b = eqb (length b) fits_size && eqb (how_many (is_no_mark b) 8) 0
+
+-- the fits, where they are lent
+abbrev pub fits_lent : List ℕ → Option (List Fit)
+fits_lent b = pick (is_lent b) (Some (fits_in b)) None

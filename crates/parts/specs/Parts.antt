@@ -1,18 +1,14 @@
 -- The parts, each a list of fields, and how many bytes each takes. Assumes nothing.
-use Rattle.std.specs.Prelude.{ℕ, ◌+◌, ◌*◌, List, [], ◌∷◌, get_or}
+use Rattle.std.specs.Prelude.{ℕ, ◌+◌, ◌*◌, List, [], ◌∷◌, Option, Some, None, slice_get}
 use Rattle.lists.specs.Cases.{flag}
-use Rattle.lists.specs.Bytes.{byte_at}
 use Rattle.lists.specs.Pieces.{joined}
 use Rattle.answers.specs.Values.{placed}
-use Rattle.answers.specs.Answers.{number_of, values_of}
+use Rattle.answers.specs.Answers.{Answer, number_of, values_of, Bvs}
 use Rattle.answers.specs.Trust.{evidence_number, evidence_values}
-use Rattle.answers.specs.Warns.{warning_number, warning_values, blank_warning}
-use Rattle.answers.specs.declared.kinds.Answer.{Answer}
-use Rattle.answers.specs.declared.kinds.Bvs.{Bvs}
-use Rattle.answers.specs.declared.trust.Evidence.TheVariants as evidence
-use Rattle.answers.specs.declared.trust.Ground.{Ground}
+use Rattle.answers.specs.Warns.{warning_number, warning_values}
+use Rattle.answers.specs.declared.trust.Evidence.{Evidence}
 use Rattle.answers.specs.declared.notices.Warning.{Warning}
-use Rattle.sector.specs.Scan.{blank_fit}
+use Rattle.answers.specs.declared.tables.Table.{Table}
 use Rattle.sector.specs.declared.fits.Fit.{Fit}
 use Rattle.fields.specs.Fields.{Field, little, pair_entry}
 
@@ -45,32 +41,39 @@ fit_fields f =
     ∷ little 2 f.tied
     ∷ []
 
-abbrev pub fit_entry : List Fit → ℕ → List Field
-fit_entry fits s = fit_fields (get_or fits s blank_fit)
+-- a place of a table: zeros where it is not used
+abbrev pub place_fields : {A : Type 0} → (A → List Field) → ℕ → Option A → List Field
+place_fields fields n None = little n 0 ∷ []
+place_fields fields n (Some x) = fields x
+
+-- the first n entries of a table, each of w bytes; zeros past its end
+unfoldable pub table_fields : {A : Type 0} → (A → List Field) → ℕ → List A → ℕ → List Field
+table_fields fields w items n = joined (λ k. place_fields fields w (slice_get items k)) n
+
+-- a list in a table of places: how many, and the places
+abbrev pub listed_fields : {A : Type 0} {n : ℕ} → (A → List Field) → ℕ → Table A n → List Field
+listed_fields {n = n} fields w t = little 1 t.len ∷ table_fields (place_fields fields w) w t.items n
 
 -- the eight fits
 abbrev pub fits_size : ℕ
 fits_size = 8 * fit_size
 
 unfoldable pub fits_fields : List Fit → List Field
-fits_fields fits = joined (fit_entry fits) 8
+fits_fields fits = table_fields fit_fields fit_size fits 8
 
 -- a piece of evidence: number, two values
 abbrev pub ground_size : ℕ
 ground_size = 5
 
-unfoldable pub ground_fields : Ground → List Field
-ground_fields g =
-    little 1 (evidence_number g.evidence)
-    ∷ little 2 (placed (evidence_values g.evidence)).first
-    ∷ little 2 (placed (evidence_values g.evidence)).second
+unfoldable pub ground_fields : Evidence → List Field
+ground_fields e =
+    little 1 (evidence_number e)
+    ∷ little 2 (placed (evidence_values e)).first
+    ∷ little 2 (placed (evidence_values e)).second
     ∷ []
 
-abbrev pub ground_entry : List Ground → ℕ → List Field
-ground_entry grounds k = ground_fields (get_or grounds k (record { evidence = evidence.Nothing }))
-
-unfoldable pub grounds_fields : List Ground → List Field
-grounds_fields grounds = joined (ground_entry grounds) 4
+unfoldable pub grounds_fields : List (Option Evidence) → List Field
+grounds_fields grounds = table_fields (place_fields ground_fields ground_size) ground_size grounds 4
 
 -- a warning: number, page, three values
 abbrev pub warning_size : ℕ
@@ -85,25 +88,19 @@ warning_fields w =
     ∷ little 8 (placed (warning_values w.kind)).third
     ∷ []
 
-abbrev pub warning_entry : List Warning → ℕ → List Field
-warning_entry items k = warning_fields (get_or items k blank_warning)
-
 -- the first n places of a table of warnings
-unfoldable pub warnings_fields : List Warning → ℕ → List Field
-warnings_fields items n = joined (warning_entry items) n
+unfoldable pub warnings_fields : List (Option Warning) → ℕ → List Field
+warnings_fields items n = table_fields (place_fields warning_fields warning_size) warning_size items n
 
 -- values of bv: how many, eight places
 abbrev pub bvs_size : ℕ
 bvs_size = 9
 
-abbrev pub place_entry : List ℕ → ℕ → List Field
-place_entry items k = little 1 (byte_at items k) ∷ []
-
-unfoldable pub places_fields : List ℕ → List Field
-places_fields items = joined (place_entry items) 8
+abbrev pub bv_fields : ℕ → List Field
+bv_fields bv = little 1 bv ∷ []
 
 unfoldable pub bvs_fields : Bvs → List Field
-bvs_fields t = little 1 t.len ∷ places_fields t.items
+bvs_fields t = listed_fields bv_fields 1 t
 
 -- a table of slots, or of where rows start
 abbrev pub slots_size : ℕ

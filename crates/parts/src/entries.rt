@@ -1,54 +1,121 @@
 // One part at a place of a buffer.
-ghost use Rattle.fields.specs.Fields.{Put};
-ghost use Rattle.parts.specs.Parts.{answer_fields, fit_fields, ground_fields, warning_fields};
+ghost use Rattle.std.specs.Prelude.{ℕ, List};
+ghost use Rattle.fields.specs.Fields.{Field, Put};
+ghost use Rattle.parts.specs.Parts.{answer_fields, fit_size, fit_fields, ground_size, ground_fields, warning_size, warning_fields, bv_fields, place_fields};
 
-use answers::{Answer, Ground, Warning};
-use numbers::{long8, put_bool, put_low16, put_u8, put_u16, put_u64};
+use crate::{FIT_SIZE, GROUND_SIZE, WARNING_SIZE};
+use answers::{Evidence, Refusal, Values, Warning};
+use numbers::{Number, put_low, put_zeros};
 use sector::Fit;
 
-pub fn put_answer(out: &mut [u8], at: usize, x: Answer) -> usize
+// What a table of a layout has an entry for.
+pub trait Part {
+    // How many bytes it takes.
+    ghost SIZE: { ℕ };
+
+    const SIZE: usize;
+
+    ghost fields: { Self → List Field };
+
+    fn put_at(&self, out: &mut [u8], at: usize) -> usize
+        ensures { Put out.old at (fields self.now) out.new result };
+}
+
+impl Part for Fit {
+    ghost SIZE = { fit_size };
+
+    const SIZE: usize = FIT_SIZE;
+
+    ghost fields = { fit_fields };
+
+    fn put_at(&self, out: &mut [u8], at: usize) -> usize {
+        let at = self.step.put(out, at);
+        let at = self.peak.put(out, at);
+        let at = self.runner_up.put(out, at);
+        let at = self.exact.put(out, at);
+        self.tied.put(out, at)
+    }
+}
+
+impl Part for Evidence {
+    ghost SIZE = { ground_size };
+
+    const SIZE: usize = GROUND_SIZE;
+
+    ghost fields = { ground_fields };
+
+    fn put_at(&self, out: &mut [u8], at: usize) -> usize {
+        let values = self.values();
+        let at = self.number().put(out, at);
+        let at = put_low::<2>(out, at, values.first);
+        put_low::<2>(out, at, values.second)
+    }
+}
+
+impl Part for Warning {
+    ghost SIZE = { warning_size };
+
+    const SIZE: usize = WARNING_SIZE;
+
+    ghost fields = { warning_fields };
+
+    fn put_at(&self, out: &mut [u8], at: usize) -> usize {
+        let values = self.kind.values();
+        let at = self.kind.number().put(out, at);
+        let at = self.page.put(out, at);
+        let at = values.first.put(out, at);
+        let at = values.second.put(out, at);
+        values.third.put(out, at)
+    }
+}
+
+// A value of bv.
+impl Part for u8 {
+    ghost SIZE = { 1 };
+
+    const SIZE: usize = 1;
+
+    ghost fields = { bv_fields };
+
+    fn put_at(&self, out: &mut [u8], at: usize) -> usize {
+        self.put(out, at)
+    }
+}
+
+// A place that is not used is zeros.
+impl<T: Part> Part for Option<T> {
+    ghost SIZE = { T.SIZE };
+
+    const SIZE: usize = T::SIZE;
+
+    ghost fields = { place_fields T.fields T.SIZE };
+
+    fn put_at(&self, out: &mut [u8], at: usize) -> usize {
+        match self {
+            Some(x) => x.put_at(out, at),
+            None => put_zeros(out, at, T::SIZE),
+        }
+    }
+}
+
+// What stands beside an answer that is no refusal.
+const NO_VALUES: Values = Values {
+    count: 0,
+    first: 0,
+    second: 0,
+    third: 0,
+    fourth: 0,
+};
+
+pub fn put_answer(out: &mut [u8], at: usize, x: Option<Refusal>) -> usize
     ensures { Put out.old at (answer_fields x) out.new result }
 {
-    let n = x.number();
-    let v = x.values();
-    let head = long8(n) + 256 * long8(v.count);
-    let at = put_u64(out, at, head);
-    let at = put_u64(out, at, v.first);
-    let at = put_u64(out, at, v.second);
-    let at = put_u64(out, at, v.third);
-    put_u64(out, at, v.fourth)
-}
-
-pub fn put_fit(out: &mut [u8], at: usize, f: Fit) -> usize
-    ensures { Put out.old at (fit_fields f) out.new result }
-{
-    let at = put_u8(out, at, f.step);
-    let at = put_u16(out, at, f.peak);
-    let at = put_u16(out, at, f.runner_up);
-    let at = put_bool(out, at, f.exact);
-    put_u16(out, at, f.tied)
-}
-
-pub fn put_ground(out: &mut [u8], at: usize, g: Ground) -> usize
-    ensures { Put out.old at (ground_fields g) out.new result }
-{
-    let e = g.evidence;
-    let n = e.number();
-    let v = e.values();
-    let at = put_u8(out, at, n);
-    let at = put_low16(out, at, v.first);
-    put_low16(out, at, v.second)
-}
-
-pub fn put_warning(out: &mut [u8], at: usize, w: Warning) -> usize
-    ensures { Put out.old at (warning_fields w) out.new result }
-{
-    let kind = w.kind;
-    let n = kind.number();
-    let v = kind.values();
-    let at = put_u8(out, at, n);
-    let at = put_u64(out, at, w.page);
-    let at = put_u64(out, at, v.first);
-    let at = put_u64(out, at, v.second);
-    put_u64(out, at, v.third)
+    let number = x.map_or(0, Refusal::number);
+    let values = x.map_or(NO_VALUES, Refusal::values);
+    let head = u64::from(number) + 256 * u64::from(values.count);
+    let at = head.put(out, at);
+    let at = values.first.put(out, at);
+    let at = values.second.put(out, at);
+    let at = values.third.put(out, at);
+    values.fourth.put(out, at)
 }

@@ -1,5 +1,5 @@
 // The parts that the layouts of include/lumeviqo.h are made of: the answer part, fits, evidence, warnings, values of bv, slots. Each but the last is put at
-// a place of a lent buffer, field by field, and returns the place behind it; `fits_in` reads fits back. Numbers are little-endian; a place that a part does
+// a place of a lent buffer, field by field, and returns the place behind it; `fits_lent` reads fits back. Numbers are little-endian; a place that a part does
 // not use is zero.
 #![tactic(auto)]
 
@@ -7,9 +7,9 @@ mod entries;
 mod lent;
 mod tables;
 
-pub use entries::{put_answer, put_fit, put_ground, put_warning};
+pub use entries::{Part, put_answer};
 pub use lent::{fits_in, fits_lent};
-pub use tables::{put_bvs, put_fits, put_grounds, put_warnings};
+pub use tables::{put_all, put_list};
 
 // How many bytes each takes. The proofs of the whole layouts hold these to the fields.
 pub const ANSWER_SIZE: usize = 40;

@@ -1,6 +1,6 @@
 -- Laws of the fields that the prelude search passes over. Assumes nothing.
 use Prim.Native.Nat.{ℕ, zero, suc, ◌+◌, ◌-◌, ◌≤◌, ◌<◌, min}
-use mathlib.Core.Path.{◌≡◌, refl, sym, ap, subst, ◌∙◌}
+use mathlib.Core.Path.{◌≡◌, refl, sym, ap, ◌∙◌}
 use mathlib.Core.List.{List}
 use mathlib.Core.Bool.{false}
 use native.Mathlib.Omega.{arith}
@@ -82,11 +82,8 @@ module _ (p : List ℕ) (n from end : ℕ) where
 
 -- what was seen up to one field was seen up to the next one
 pub next-seen :
-    (p : List ℕ) (n count from end field : ℕ) (seen : Prelude)
-    → count ≡ n
+    (p : List ℕ) (n from end field : ℕ) (seen : Prelude)
     → NextField p n from end field
-    → seen ≡ prelude_of from p count
-    → (field ≤ end) × (seen ≡ prelude_of field p count) × (field < end → pair_at p field ≡ count)
-next-seen p n count from end field seen e g q =
-    let x : NextField p count from end field = subst (λ (m : ℕ). NextField p m from end field) (sym e) g in
-    (x.passed.within, q ∙ sym x.passed.same, x.holds)
+    → seen ≡ prelude_of from p n
+    → (field ≤ end) × (seen ≡ prelude_of field p n) × (field < end → pair_at p field ≡ n)
+next-seen p n from end field seen x q = (x.passed.within, q ∙ sym x.passed.same, x.holds)

@@ -1,6 +1,6 @@
 -- Laws of a run of slots, read one after the other. Assumes nothing.
 use Prim.Native.Nat.{ℕ, zero, suc, ◌+◌, ◌*◌, ◌≤◌, ◌<◌}
-use mathlib.Core.Path.{◌≡◌, refl, sym, ap, ◌∙◌}
+use mathlib.Core.Path.{◌≡◌, refl, sym, ap, subst, ◌∙◌}
 use mathlib.Core.List.{List, [], ◌∷◌}
 use mathlib.Core.Bool.{true, false}
 use native.Mathlib.Omega.{arith}
@@ -107,3 +107,6 @@ pub stop-end : (lim : ℕ) (p : List ℕ) (at prev taken live pos : ℕ) → Goi
 unfolding falling
 stop-end lim p at prev taken live pos g h =
     sym (g.rest ∙ ap (λ (l : List ℕ). onto taken live (falling prev l)) (words-end lim p pos h) ∙ onto-nil taken live)
+
+pub going-to : {lim : ℕ} {p : List ℕ} {at prev taken live pos : ℕ} (to : ℕ) → pos ≡ to → Going lim p at prev taken live pos → Going lim p at prev taken live to
+going-to {lim} {p} {at} {prev} {taken} {live} to e g = subst (Going lim p at prev taken live) e g

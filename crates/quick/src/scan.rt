@@ -15,7 +15,7 @@ pub fn scan_sector(stored: &[u8], offset: u8, out: &mut [u8]) -> Fit
     if n < 2 || n > 512 || out.len() != n || first_break(stored) < n {
         return classes::scan_sector(stored, offset, out);
     }
-    numbers::fill(out, std::num::wrapping_sub_u8(stored[0], offset));
+    out.fill(stored[0].wrapping_sub(offset));
     exact_fit(first_step(stored), n)
 }
 

@@ -2,7 +2,10 @@
 use Prim.Native.Nat.{ℕ, ◌+◌, ◌≤◌, ◌<◌}
 use mathlib.Core.Path.{◌≡◌, sym, ap, ◌∙◌}
 use mathlib.Core.Bool.{true, false}
-use mathlib.Core.List.{List}
+use mathlib.Core.List.{List, [], ◌∷◌}
+use Rattle.std.proofs.Common.{Option, Some, None, Result}
+use Rattle.answers.specs.Answers.{number_of}
+use Rattle.answers.specs.declared.kinds.Refusal.TheVariants.{MalformedLine}
 use native.Mathlib.Omega.{arith}
 use borrow.Author.Tests.{le-leb, lt-leb, leb-true, leb-false}
 use lib.Dec.{leb}
@@ -15,13 +18,13 @@ use Rattle.answers.specs.Settings.{options_of}
 use Rattle.answers.specs.declared.settings.Options.{Options}
 use Rattle.summary.specs.Page.{fits_of, bytes_of}
 use Rattle.decode.specs.Decode.{decoding_of}
+use Rattle.choice.specs.declared.Refused.{Refused}
 use Rattle.verdict.specs.declared.Decoding.{Decoding}
 use Rattle.lines.specs.Input.{Bounded}
 use Rattle.digits.specs.Digits.{spelled}
-use Rattle.frame.specs.Frames.{head_size, least_frame, frame_most, line_room, is_frame, anchor_count, page_number, option_bits, least_count, limit_of, anchors_of, stored_of, frame_of, frame_bytes}
+use Rattle.frame.specs.Frames.{head_size, least_frame, frame_most, line_room, is_frame, anchor_count, page_number, option_bits, least_count, limit_of, anchors_of, stored_of, good_of, frame_of, frame_in, frame_bytes}
 use Rattle.frame.specs.declared.reading.Frame.{Frame}
-use Rattle.frame.specs.declared.reading.Frame.TheVariants.{Good, Nothing}
-use Rattle.frame.proofs.Frames.{Fields, frame-long, frame-bytes, frame_small, frame-nothing, frame-good, bytes-yes}
+use Rattle.frame.proofs.Frames.{large, frame-long, frame-bytes, frame_small, frame-nothing, frame-good, bytes-yes}
 use Rattle.reply.specs.Report.{report_most, reply_most, report_bytes, line_of}
 use Rattle.reply.specs.Reply.{frame_decoding, frame_report, malformed, reply_of, replied_into, replied_number}
 use Rattle.reply.proofs.Reports.{line-size, report-fits}
@@ -62,30 +65,35 @@ module _ (line : List ℕ) where
         → (n ≡ replied_number line out) × (filled ≡ replied_into line out)
     replied reply filled n e f g = (f ∙ ap length e ∙ sym reply-room.0, g ∙ ap (over out 0) e ∙ sym reply-room.1)
 
+  -- what was read into room for the longest frame
+  pub read-whole : (room : List ℕ) {r : Option Frame} → frame_most ≡ length room → r ≡ frame_in (length room) line → r ≡ frame_of line
+  read-whole room h e = e ∙ sym (large line (length room) (omega arith))
+
   -- a line that is no frame, and one that is, from what was read of it
-  pub malformed-reply : (r : Frame) → r ≡ frame_of line → r ≡ Nothing → line_of malformed ≡ reply_of line
-  malformed-reply r e f = reply-no (frame-nothing line (sym e ∙ f))
+  pub malformed-reply : (r : Option Frame) (n : ℕ) → r ≡ frame_of line → r ≡ None → n ≡ number_of (Some MalformedLine) → line_of (n ∷ []) ≡ reply_of line
+  malformed-reply r n e f g = ap (λ (i : ℕ). line_of (i ∷ [])) g ∙ reply-no (frame-nothing line (sym e ∙ f))
 
-  module _ (r : Frame) (p o t lim n : ℕ) (e : r ≡ frame_of line) (f : r ≡ Good p o t lim n) where
-    fields : Fields line p o t lim n
-    fields = frame-good line p o t lim n (sym e ∙ f)
+  module _ (r : Option Frame) (f : Frame) (e : r ≡ frame_of line) (is : r ≡ Some f) where
+    pub good-count : f.anchors < 256
+    good-count =
+        let w = frame-good line f (sym e ∙ is) in
+        omega (arith, ap (λ (x : Frame). x.anchors) w.1, frame_small line w.0)
 
-    pub good-count : n < 256
-    good-count = let w = fields in omega (arith, w.anchors, frame_small line w.frame)
-
-    pub good-reply : (room bytes : List ℕ) (d : Decoding) → frame_most ≤ length room → bytes ≡ frame_bytes line room
-        → d ≡ frame_decoding p (stored_of n bytes) (anchors_of n bytes) (options_of o t lim) → line_of (report_bytes p d) ≡ reply_of line
+    pub good-reply : (room bytes : List ℕ) (d : Result Decoding Refused) → frame_most ≤ length room → bytes ≡ frame_bytes line room
+        → d ≡ frame_decoding f.number (stored_of f.anchors bytes) (anchors_of f.anchors bytes) (options_of f.options f.t f.limit)
+        → line_of (report_bytes f.number d) ≡ reply_of line
     unfolding frame_report
     good-reply room bytes d h g k =
-        let w = fields in
+        let w = frame-good line f (sym e ∙ is) in
         let ys : List ℕ = spelled line in
-        let m : length ys ≡ least_frame + n = frame-bytes line w.frame ∙ omega (arith, w.anchors) in
-        let all : bytes ≡ over room 0 ys = g ∙ sym (bytes-yes line room h w.frame) in
+        let n : ℕ = anchor_count line in
+        let m : length ys ≡ least_frame + n = frame-bytes line w.0 in
+        let all : bytes ≡ over room 0 ys = g ∙ sym (bytes-yes line room h w.0) in
         let stored : stored_of n bytes ≡ stored_of n ys = ap (stored_of n) all ∙ front-part room ys (head_size + n) 4096 (omega arith) in
         let anchors : anchors_of n bytes ≡ anchors_of n ys = ap (anchors_of n) all ∙ front-part room ys head_size n (omega arith) in
-        let same : report_bytes p (frame_decoding p (stored_of n bytes) (anchors_of n bytes) (options_of o t lim)) ≡ frame_report ys (anchor_count line) =
-        rw (stored, anchors, w.number, w.options, w.least, w.limit, w.anchors) in
-        ap (λ (x : Decoding). line_of (report_bytes p x)) k ∙ ap line_of same ∙ reply-yes w.frame
+        let of : Frame → List ℕ = λ (x : Frame). report_bytes x.number (frame_decoding x.number (stored_of x.anchors bytes) (anchors_of x.anchors bytes) (options_of x.options x.t x.limit)) in
+        let same : of (good_of ys n) ≡ frame_report ys n = rw (stored, anchors) in
+        ap (λ (x : Result Decoding Refused). line_of (report_bytes f.number x)) k ∙ ap line_of (ap of w.1 ∙ same) ∙ reply-yes w.0
 
 -- What is kept of an over-long line answers as the whole line does: no line longer than the longest frame's is a frame.
 pub kept-answers : (k : ℕ) (line : List ℕ) → line_room ≤ k → reply_of (take k line) ≡ reply_of line

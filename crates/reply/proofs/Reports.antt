@@ -1,20 +1,21 @@
 -- A report's bytes, put one behind the other, and its line. Assumes nothing.
-use Prim.Native.Nat.{ℕ, suc, ◌+◌, ◌-◌, ◌*◌, ◌%◌, ◌≤◌, ◌<◌}
+use Prim.Native.Nat.{ℕ, suc, ◌+◌, ◌*◌, ◌%◌, ◌≤◌, ◌<◌}
 use mathlib.Core.Path.{◌≡◌, sym, ap, ap₂, ◌∙◌}
 use mathlib.Core.List.{List, [], ◌∷◌, ◌++◌, append-nil}
-use mathlib.Core.Bool.{true, false}
 use native.Mathlib.Omega.{arith}
 use borrow.Author.Tests.{le-leb, lt-leb}
 use lib.ListN.{length, set, take, length-append, length-set}
 use lib.Seq.{take_all}
 use Rattle.lists.specs.Cases.{flag}
 use Rattle.lists.specs.Pieces.{over}
-use Rattle.answers.specs.Answers.{number_of, is_accepted}
+use Rattle.answers.specs.Answers.{number_of, refusal_number}
 use Rattle.answers.specs.Trust.{source_number, confidence_number}
 use Rattle.sector.specs.declared.fits.Fit.{Fit}
+use Rattle.choice.specs.Rules.{refused_answer}
+use Rattle.choice.specs.declared.Refused.{Refused}
 use Rattle.verdict.specs.Sectors.{entry}
 use Rattle.verdict.specs.declared.Decoding.{Decoding}
-use Rattle.lists.proofs.Picks.{pick-case}
+use Rattle.std.proofs.Common.{Result, Ok, Err}
 use Rattle.lists.proofs.Joined.{joined_length, pieces_more}
 use Rattle.lists.proofs.Over.{front-take, over-length, over-one, over-then, over-push}
 use Rattle.numbers.specs.Numbers.{big_bytes}
@@ -23,7 +24,7 @@ use Rattle.numbers.proofs.Widths.{big-long}
 use Rattle.numbers.proofs.Kept.{kept-room}
 use Rattle.digits.specs.Digits.{hexed, hexed_number, hexed_into}
 use Rattle.digits.proofs.Spelling.{hexed-length, hex-yes}
-use Rattle.reply.specs.Report.{report_most, fit_report, fit_reports, accepted_bytes, report_bytes, reported_into, reported_number, line_of}
+use Rattle.reply.specs.Report.{report_most, fit_report, fit_reports, accepted_bytes, told_bytes, report_bytes, reported_into, reported_number, line_of}
 
 pub line-size : (bytes : List ℕ) → length (line_of bytes) ≡ length bytes + length bytes + 1
 unfolding line_of
@@ -105,57 +106,61 @@ module _ (d : Decoding) where
       ∙ over-push l 9 (head ++ fs) 76 warnings (omega arith) (omega arith)
       ∙ rw (e, f, g)
 
-  module _ (number : ℕ) (l : List ℕ) (h : report_most ≤ length l) (answer : ℕ) (e : answer ≡ number_of d.choice.answer) where
-    pub head-room : {a : List ℕ} {r : ℕ} → Wrote (set l 0 answer) 1 (big_bytes 8 number) a r → (a ≡ over (set l 0 answer) 1 (big_bytes 8 number)) × (length a ≡ length l)
-    head-room w =
-        let n : length (set l 0 answer) ≡ length l = length-set l 0 answer in
-        let k = (kept-room w (omega (arith, big-long 8 number))).0 in
-        (k, ap length k ∙ over-length (set l 0 answer) (big_bytes 8 number) 1 (omega (arith, big-long 8 number)) ∙ n)
+-- the answer and the page number
+pub head-put : (l : List ℕ) (answer number : ℕ) {after : List ℕ} {r : ℕ} → report_most ≤ length l
+    → Wrote (set l 0 answer) 1 (big_bytes 8 number) after r → after ≡ over l 0 (answer ∷ big_bytes 8 number)
+head-put l answer number h w =
+    let n : length (set l 0 answer) ≡ length l = length-set l 0 answer in
+    (kept-room w (omega (arith, big-long 8 number))).0
+    ∙ ap (λ (x : List ℕ). over x 1 (big_bytes 8 number)) (over-one l 0 answer (omega arith))
+    ∙ over-then l 0 (answer ∷ []) (big_bytes 8 number) 1 (omega arith) (omega (arith, big-long 8 number))
 
-    head-put : over (set l 0 answer) 1 (big_bytes 8 number) ≡ over l 0 (answer ∷ big_bytes 8 number)
-    head-put =
-        ap (λ (x : List ℕ). over x 1 (big_bytes 8 number)) (over-one l 0 answer (omega arith))
-        ∙ over-then l 0 (answer ∷ []) (big_bytes 8 number) 1 (omega arith) (omega (arith, big-long 8 number))
+module _ (number : ℕ) (l : List ℕ) where
+  pub report-accepted : (d : Decoding) {head after : List ℕ} → report_most ≤ length l → head ≡ over l 0 (0 ∷ big_bytes 8 number) → after ≡ over head 9 (accepted_bytes d)
+      → (report_most ≡ reported_number number (Ok d) l) × (after ≡ reported_into number (Ok d) l)
+  unfolding reported_number reported_into report_bytes
+  report-accepted d h e f = (
+    rw (le-leb report_most (length l) h) (ap suc (sym (length-append (big_bytes 8 number) (accepted_bytes d) ∙ omega (arith, big-long 8 number, accepted-length d)))),
+    rw (le-leb report_most (length l) h)
+        (f ∙ ap (λ (x : List ℕ). over x 9 (accepted_bytes d)) e
+        ∙ over-then l 0 (0 ∷ big_bytes 8 number) (accepted_bytes d) 9 (omega (arith, big-long 8 number)) (omega (arith, big-long 8 number, accepted-length d))),
+  )
 
-    pub report-accepted : is_accepted d.choice.answer ≡ true
-        → (report_most ≡ reported_number number d l) × (over (over (set l 0 answer) 1 (big_bytes 8 number)) 9 (accepted_bytes d) ≡ reported_into number d l)
-    unfolding reported_number reported_into report_bytes
-    report-accepted t = (
-      rw (le-leb report_most (length l) h, t) (ap suc (sym (length-append (big_bytes 8 number) (accepted_bytes d) ∙ omega (arith, big-long 8 number, accepted-length)))),
-      rw (le-leb report_most (length l) h, t, ← e)
-          (ap (λ (x : List ℕ). over x 9 (accepted_bytes d)) head-put
-          ∙ over-then l 0 (answer ∷ big_bytes 8 number) (accepted_bytes d) 9 (omega (arith, big-long 8 number)) (omega (arith, big-long 8 number, accepted-length))),
-    )
+  pub report-refused : (e : Refused) (answer : ℕ) {after : List ℕ} → report_most ≤ length l → answer ≡ refusal_number e.refusal → after ≡ over l 0 (answer ∷ big_bytes 8 number)
+      → (9 ≡ reported_number number (Err e) l) × (after ≡ reported_into number (Err e) l)
+  unfolding reported_number reported_into report_bytes
+  report-refused e answer h k f = (
+    rw (le-leb report_most (length l) h) (ap suc (sym (length-append (big_bytes 8 number) [] ∙ omega (arith, big-long 8 number)))),
+    rw (le-leb report_most (length l) h, ← k) (f ∙ ap (λ (x : List ℕ). over l 0 (answer ∷ x)) (sym (append-nil (big_bytes 8 number)))),
+  )
 
-    pub report-refused : is_accepted d.choice.answer ≡ false → (9 ≡ reported_number number d l) × (over (set l 0 answer) 1 (big_bytes 8 number) ≡ reported_into number d l)
-    unfolding reported_number reported_into report_bytes
-    report-refused t = (
-      rw (le-leb report_most (length l) h, t) (ap suc (sym (length-append (big_bytes 8 number) [] ∙ omega (arith, big-long 8 number)))),
-      rw (le-leb report_most (length l) h, t, ← e) (head-put ∙ ap (λ (x : List ℕ). over l 0 (answer ∷ x)) (sym (append-nil (big_bytes 8 number)))),
-    )
-
-  pub report-short : (number : ℕ) (l : List ℕ) → length l < report_most → (0 ≡ reported_number number d l) × (l ≡ reported_into number d l)
+module _ (found : Result Decoding Refused) (number : ℕ) where
+  pub report-short : (l : List ℕ) → length l < report_most → (0 ≡ reported_number number found l) × (l ≡ reported_into number found l)
   unfolding reported_number reported_into
-  report-short number l h = (rw (lt-leb report_most (length l) h), rw (lt-leb report_most (length l) h))
+  report-short l h = (rw (lt-leb report_most (length l) h), rw (lt-leb report_most (length l) h))
 
-  pub report-fits : (number : ℕ) → length (report_bytes number d) ≤ report_most
+  pub report-fits : length (report_bytes number found) ≤ report_most
   unfolding report_bytes
-  report-fits number =
-      pick-case (λ (x : List ℕ). length (number_of d.choice.answer ∷ (big_bytes 8 number ++ x)) ≤ report_most) (is_accepted d.choice.answer) (accepted_bytes d) []
-      (λ e. omega (arith, length-append (big_bytes 8 number) (accepted_bytes d), big-long 8 number, accepted-length))
-      (λ e. omega (arith, length-append (big_bytes 8 number) [], big-long 8 number))
+  report-fits = told-fits found
+    where
+      told-fits : (r : Result Decoding Refused) → length (number_of (refused_answer r) ∷ (big_bytes 8 number ++ told_bytes r)) ≤ report_most
+      told-fits (Ok d) = omega (arith, length-append (big_bytes 8 number) (accepted_bytes d), big-long 8 number, accepted-length d)
+      told-fits (Err e) = omega (arith, length-append (big_bytes 8 number) [], big-long 8 number)
 
   -- what stands in a buffer of that many places after `put_report`
-  module _ (number : ℕ) (l : List ℕ) (h : report_most ≡ length l) (n : ℕ) (e : n ≡ reported_number number d l) where
-    pub report-number : n ≡ length (report_bytes number d)
+  module _ (l : List ℕ) (h : report_most ≡ length l) (n : ℕ) (e : n ≡ reported_number number found l) where
+    pub report-number : n ≡ length (report_bytes number found)
     unfolding reported_number
     report-number = e ∙ rw (le-leb report_most (length l) (omega arith))
 
-    pub report-taken : (filled : List ℕ) → filled ≡ reported_into number d l → take (n - 0) filled ≡ report_bytes number d
+    pub report-within : n ≤ report_most
+    report-within = omega (arith, report-number, report-fits)
+
+    pub report-taken : (filled : List ℕ) → filled ≡ reported_into number found l → take n filled ≡ report_bytes number found
     unfolding reported_into
     report-taken filled f =
-        let k : n - 0 ≡ length (report_bytes number d) = omega (arith, report-number) in
-        let g : filled ≡ over l 0 (report_bytes number d) = f ∙ rw (le-leb report_most (length l) (omega arith)) in
+        let k : n ≡ length (report_bytes number found) = report-number in
+        let g : filled ≡ over l 0 (report_bytes number found) = f ∙ rw (le-leb report_most (length l) (omega arith)) in
         ap₂ (λ (i : ℕ) (w : List ℕ). take i w) k g
-        ∙ front-take l (report_bytes number d) (length (report_bytes number d)) (omega arith)
-        ∙ take_all (length (report_bytes number d)) (report_bytes number d) (omega arith)
+        ∙ front-take l (report_bytes number found) (length (report_bytes number found)) (omega arith)
+        ∙ take_all (length (report_bytes number found)) (report_bytes number found) (omega arith)

@@ -7,7 +7,8 @@ ghost use Rattle.reply.specs.Report.{report_most, reply_most, report_line};
 ghost use Rattle.reply.specs.Reply.{frame_decoding, replied_into, replied_number};
 
 use crate::writing::{REPLY_MOST, REPORT_MOST, put_line, put_report};
-use answers::Options;
+use answers::{Options, Refusal};
+use choice::Refused;
 use decode::decode_page;
 use frame::{FRAME_MOST, Frame, HEAD, PAGE, read_frame};
 use verdict::Decoding;
@@ -21,18 +22,10 @@ pub fn reply_to(line: &[u8], out: &mut [u8]) -> usize
         return 0;
     }
     let mut bytes = frame_room();
-    let Frame::Good {
-        number,
-        options,
-        t,
-        limit,
-        anchors: n,
-    } = read_frame(line, &mut bytes)
-    else {
-        return put_line(&[17], out);
+    let Some(frame) = read_frame(line, &mut bytes) else {
+        return put_line(&[Refusal::MalformedLine.number()], out);
     };
-    let d = decode_frame(number, options, t, limit, n, &bytes);
-    put_reply(number, d, out)
+    put_reply(frame.number, decode_frame(frame, &bytes), out)
 }
 
 // Room for the longest frame. The contract gives the length alone.
@@ -42,18 +35,18 @@ fn frame_room() -> [u8; FRAME_MOST]
     [0; FRAME_MOST]
 }
 
-fn decode_frame(number: u64, options: u8, t: u8, limit: usize, n: usize, bytes: &[u8]) -> Decoding
-    requires { least_frame + n ≤ length bytes.now }
-    ensures { result ≡ frame_decoding number (stored_of n bytes.now) (anchors_of n bytes.now) (options_of options t limit) }
+fn decode_frame(frame: Frame, bytes: &[u8]) -> Result<Decoding, Refused>
+    requires { least_frame + frame.anchors ≤ length bytes.now }
+    ensures { result ≡ frame_decoding frame.number (stored_of frame.anchors bytes.now) (anchors_of frame.anchors bytes.now) (options_of frame.options frame.t frame.limit) }
 {
     let mut plain = page_room();
-    let start = HEAD + n;
+    let start = HEAD + frame.anchors;
     let end = start + PAGE;
     decode_page(
-        number,
+        frame.number,
         &bytes[start..end],
         &bytes[HEAD..start],
-        Options::new(options, t, limit),
+        Options::new(frame.options, frame.t, frame.limit),
         &mut plain,
     )
 }
@@ -65,14 +58,14 @@ fn page_room() -> [u8; PAGE]
     [0; PAGE]
 }
 
-fn put_reply(number: u64, d: Decoding, out: &mut [u8]) -> usize
+fn put_reply(number: u64, found: Result<Decoding, Refused>, out: &mut [u8]) -> usize
     requires { reply_most ≤ length out.old }
-    ensures value { result ≡ length (report_line number d) }
-    ensures out_after { out.new ≡ over out.old 0 (report_line number d) }
+    ensures value { result ≡ length (report_line number found) }
+    ensures out_after { out.new ≡ over out.old 0 (report_line number found) }
 {
     let mut report = report_room();
-    let n = put_report(number, d, &mut report);
-    put_line(&report[0..n], out)
+    let n = put_report(number, found, &mut report);
+    put_line(&report[..n], out)
 }
 
 // Room for a report's bytes. The contract gives the length alone.

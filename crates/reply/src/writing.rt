@@ -1,10 +1,12 @@
 // A report line: the bytes that tell of a decoding, and their digits with a newline.
-ghost use Rattle.std.specs.Prelude.{◌≡◌, ◌+◌, ◌≤◌, length};
+ghost use Rattle.std.specs.Prelude.{◌≡◌, ◌+◌, ◌≤◌, ◌∷◌, length};
 ghost use Rattle.lists.specs.Pieces.{over};
+ghost use Rattle.numbers.specs.Numbers.{big_bytes};
 ghost use Rattle.reply.specs.Report.{report_most, fit_report, fit_reports, accepted_bytes, reported_into, reported_number, line_of};
 
+use choice::Refused;
 use digits::write_hex;
-use numbers::{bit, low, put_big_u16, put_big_u64};
+use numbers::Number;
 use sector::Fit;
 use verdict::Decoding;
 
@@ -18,22 +20,32 @@ pub const REPORT_MOST: usize = REFUSAL + 3 + 8 * FIT + 1;
 pub const REPLY_MOST: usize = 2 * REPORT_MOST + 1;
 
 // The bytes of a report, into the front of `bytes`, and their number. Where the longest does not fit, nothing and 0.
-pub fn put_report(number: u64, d: Decoding, bytes: &mut [u8]) -> usize
-    ensures value { result ≡ reported_number number d bytes.old }
-    ensures bytes_after { bytes.new ≡ reported_into number d bytes.old }
+pub fn put_report(number: u64, found: Result<Decoding, Refused>, bytes: &mut [u8]) -> usize
+    ensures value { result ≡ reported_number number found bytes.old }
+    ensures bytes_after { bytes.new ≡ reported_into number found bytes.old }
 {
     if bytes.len() < REPORT_MOST {
         return 0;
     }
-    let choice = d.choice;
-    let answer = choice.answer;
-    bytes[0] = answer.number();
-    put_big_u64(bytes, 1, number);
-    if answer.accepted() {
-        put_accepted(d, bytes);
-        return REPORT_MOST;
+    match found {
+        Ok(d) => {
+            put_head(0, number, bytes);
+            put_accepted(d, bytes);
+            REPORT_MOST
+        }
+        Err(refused) => {
+            put_head(refused.refusal.number(), number, bytes);
+            REFUSAL
+        }
     }
-    REFUSAL
+}
+
+fn put_head(answer: u8, number: u64, bytes: &mut [u8])
+    requires { report_most ≤ length bytes.old }
+    ensures { bytes.new ≡ over bytes.old 0 (answer ∷ big_bytes 8 number) }
+{
+    bytes[0] = answer;
+    number.put_big(bytes, 1);
 }
 
 fn put_accepted(d: Decoding, bytes: &mut [u8])
@@ -41,26 +53,19 @@ fn put_accepted(d: Decoding, bytes: &mut [u8])
     ensures { bytes.new ≡ over bytes.old 9 (accepted_bytes d) }
 {
     let choice = d.choice;
-    let source = choice.source;
-    let confidence = choice.confidence;
-    let fits = d.fits;
-    let warnings = d.warnings;
-    bytes[9] = source.number();
-    bytes[10] = confidence.number();
+    bytes[9] = choice.source.number();
+    bytes[10] = choice.confidence.number();
     bytes[11] = choice.bv;
-    put_fits(fits, bytes, 12);
-    bytes[76] = low(warnings.len);
+    put_fits(d.fits, bytes, 12);
+    bytes[76] = (d.warnings.len % 256) as u8;
 }
 
 fn put_fits(fits: [Fit; 8], bytes: &mut [u8], at: usize)
     requires { at + 64 ≤ length bytes.old }
     ensures { bytes.new ≡ over bytes.old at (fit_reports fits 8) }
 {
-    let mut s: usize = 0;
-    while s < 8 {
-        let f = fits[s];
-        put_fit(f, bytes, at + FIT * s);
-        s += 1;
+    for s in 0..8 {
+        put_fit(fits[s], bytes, at + FIT * s);
     }
 }
 
@@ -69,10 +74,10 @@ fn put_fit(f: Fit, bytes: &mut [u8], at: usize)
     ensures { bytes.new ≡ over bytes.old at (fit_report f) }
 {
     bytes[at] = f.step;
-    put_big_u16(bytes, at + 1, f.peak);
-    put_big_u16(bytes, at + 3, f.runner_up);
-    bytes[at + 5] = bit(f.exact);
-    put_big_u16(bytes, at + 6, f.tied);
+    f.peak.put_big(bytes, at + 1);
+    f.runner_up.put_big(bytes, at + 3);
+    bytes[at + 5] = u8::from(f.exact);
+    f.tied.put_big(bytes, at + 6);
 }
 
 // The digits of bytes and a newline, into the front of `out`, and their number.

@@ -1,7 +1,6 @@
 // The lines of a block answered, with no input or output.
 ghost use Rattle.std.specs.Prelude.{◌≡◌, ◌+◌, ◌≤◌, length, take};
 ghost use Rattle.lines.specs.Input.{last_reply};
-ghost use Rattle.lines.specs.Next.{found};
 ghost use Rattle.lines.specs.Steps.{Replied, Stepped};
 ghost use Rattle.frame.specs.Frames.{line_room};
 ghost use Rattle.reply.specs.Report.{reply_most};
@@ -26,18 +25,24 @@ pub(crate) fn step(line: &mut [u8], kept: usize, block: &[u8], from: usize, out:
                 waiting,
             };
         }
-        let next = next_line(line, len, block, at);
-        if !next.ended {
-            return Step {
-                from: block.len(),
-                kept: next.len,
-                waiting,
-            };
+        match next_line(line, len, block, at) {
+            Next::Here { end } => {
+                waiting = answer(&block[at..end], out, waiting);
+                at = end + 1;
+            },
+            Next::Begun { end, kept } => {
+                waiting = answer(&line[..kept], out, waiting);
+                at = end + 1;
+            },
+            Next::Unfinished { kept } => {
+                return Step {
+                    from: block.len(),
+                    kept,
+                    waiting,
+                };
+            },
         }
-        let end = next.end;
-        waiting = answer_next(line, block, at, next, out, waiting);
         len = 0;
-        at = end + 1;
     }
     Step {
         from: at,
@@ -56,27 +61,7 @@ pub(crate) fn finish(line: &[u8], kept: usize, out: &mut [u8]) -> usize
     if empty {
         return 0;
     }
-    answer(&line[0..kept], out, 0)
-}
-
-// The line that was found, where it stands.
-fn answer_next(
-    line: &[u8],
-    block: &[u8],
-    from: usize,
-    next: Next,
-    out: &mut [u8],
-    at: usize,
-) -> usize
-    requires { (from ≤ next.end) × (next.end ≤ length block.now) × (next.len ≤ length line.now) × (at + reply_most ≤ length out.old) }
-    ensures { Replied reply_of (found line.now block.now from next) out.old at out.new result }
-{
-    let end = next.end;
-    let len = next.len;
-    if len == 0 {
-        return answer(&block[from..end], out, at);
-    }
-    answer(&line[0..len], out, at)
+    answer(&line[..kept], out, 0)
 }
 
 fn answer(line: &[u8], out: &mut [u8], at: usize) -> usize

@@ -8,4 +8,4 @@ mod blocks;
 mod failing;
 mod running;
 
-pub use running::{Sent, run};
+pub use running::run;

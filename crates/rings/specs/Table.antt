@@ -37,10 +37,10 @@ folded sixteen twice x out = if_room out (folded_at sixteen twice x)
 abbrev pub noted_in : ℕ → Bool → ℕ
 noted_in x met = pick met ((x + 1) % 256) x
 
--- of sixteen bytes from `at` on the first n are noted, each less `shift`, in the ring of its class
-pub record Noted (l : List ℕ) (at shift : ℕ) (before : List ℕ) (n : ℕ) (after : List ℕ) : Type 0 where
+-- of sixteen bytes the first n are noted, each less `shift`, in the ring of its class
+pub record Noted (l : List ℕ) (shift : ℕ) (before : List ℕ) (n : ℕ) (after : List ℕ) : Type 0 where
   pub size : length after ≡ length before
-  pub new : (r v : ℕ) → r < n → v < 256 → byte_at after (r * 256 + v) ≡ noted_in (byte_at before (r * 256 + v)) (v == less (byte_at l (at + r)) shift)
+  pub new : (r v : ℕ) → r < n → v < 256 → byte_at after (r * 256 + v) ≡ noted_in (byte_at before (r * 256 + v)) (v == less (byte_at l r) shift)
   pub old : (r v : ℕ) → n ≤ r → v < 256 → byte_at after (r * 256 + v) ≡ byte_at before (r * 256 + v)
 
 -- the sum, up to 255, of two rings at v, that of s from place a and that of t from place b on

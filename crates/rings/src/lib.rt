@@ -6,7 +6,6 @@
 
 mod folds;
 mod quads;
-mod sums;
 mod tallies;
 
 pub use folds::{double, fold};

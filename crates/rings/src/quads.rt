@@ -6,11 +6,8 @@ ghost use Rattle.rings.specs.Class.{cap};
 ghost use Rattle.rings.specs.Peak.{ring_at, no_peaks, peaks_of};
 ghost use Rattle.rings.specs.Quad.{four_of, plus_of, greater_of, turned_of, opposite_of, top_of, tops_of};
 
-use crate::sums::{larger, sum_to_255};
-use numbers::wide;
-
 // Four counts: of four steps, or of one ring at four values.
-#[derive(Clone, Copy)]
+#[derive(Clone, Copy, PartialEq, Eq, Default)]
 pub struct Quad {
     pub a: u8,
     pub b: u8,
@@ -23,18 +20,16 @@ pub fn peaks(eight: &[u8], step: u8) -> Quad
     ensures { result ≡ peaks_of eight.now step }
 {
     if eight.len() != 4096 {
-        return Quad::zeros();
+        return Quad::default();
     }
-    let s = wide(step);
-    let mut best = Quad::zeros();
-    let mut v: usize = 0;
-    while v < 64 {
+    let s = usize::from(step);
+    let mut best = Quad::default();
+    for v in 0..64 {
         let p = pair_at(eight, s, 0, v);
         let q = pair_at(eight, s, 1, v);
         let r = pair_at(eight, s, 2, v);
         let u = pair_at(eight, s, 3, v);
         best = best.greater(tops(p, q, r, u));
-        v += 1;
     }
     best
 }
@@ -78,25 +73,14 @@ fn tops(p: Quad, q: Quad, r: Quad, u: Quad) -> Quad
 }
 
 impl Quad {
-    fn zeros() -> Self
-        ensures { result ≡ no_peaks }
-    {
-        Quad {
-            a: 0,
-            b: 0,
-            c: 0,
-            d: 0,
-        }
-    }
-
     fn plus(self, q: Self) -> Self
         ensures { result ≡ plus_of self q }
     {
         Quad {
-            a: sum_to_255(self.a, q.a),
-            b: sum_to_255(self.b, q.b),
-            c: sum_to_255(self.c, q.c),
-            d: sum_to_255(self.d, q.d),
+            a: self.a.saturating_add(q.a),
+            b: self.b.saturating_add(q.b),
+            c: self.c.saturating_add(q.c),
+            d: self.d.saturating_add(q.d),
         }
     }
 
@@ -105,10 +89,10 @@ impl Quad {
         ensures { result ≡ greater_of self q }
     {
         Quad {
-            a: larger(self.a, q.a),
-            b: larger(self.b, q.b),
-            c: larger(self.c, q.c),
-            d: larger(self.d, q.d),
+            a: self.a.max(q.a),
+            b: self.b.max(q.b),
+            c: self.c.max(q.c),
+            d: self.d.max(q.d),
         }
     }
 
@@ -139,6 +123,6 @@ impl Quad {
     fn greatest(self) -> u8
         ensures { result ≡ top_of self }
     {
-        larger(larger(self.a, self.b), larger(self.c, self.d))
+        self.a.max(self.b).max(self.c.max(self.d))
     }
 }

@@ -1,8 +1,6 @@
 // Sixteen rings counted from the bytes of a sector.
-ghost use Rattle.std.specs.Prelude.{◌≡◌, ◌+◌, ◌*◌, ◌≤◌, length};
+ghost use Rattle.std.specs.Prelude.{◌≡◌, length};
 ghost use Rattle.rings.specs.Table.{tallied, Noted};
-
-use numbers::wide;
 
 // The counts of each of sixteen classes, byte j of a class shifted by the offset and by j times `stride`. They go into `out`, which has 4,096 bytes; else
 // it stays.
@@ -12,27 +10,23 @@ pub fn tally(stored: &[u8], offset: u8, stride: u8, out: &mut [u8])
     if out.len() != 4096 {
         return;
     }
-    numbers::fill(out, 0);
-    let blocks = stored.len() / 16;
+    out.fill(0);
     let mut shift = offset;
-    let mut j: usize = 0;
-    while j < blocks {
-        note_sixteen(stored, j * 16, shift, out);
-        shift = std::num::wrapping_add_u8(shift, stride);
-        j += 1;
+    let (blocks, _) = stored.as_chunks::<16>();
+    for block in blocks {
+        note_sixteen(block, shift, out);
+        shift = shift.wrapping_add(stride);
     }
 }
 
 // Sixteen bytes, each noted in the ring of its class.
-fn note_sixteen(stored: &[u8], at: usize, shift: u8, out: &mut [u8])
-    requires { (at + 16 ≤ length stored.now) × (length out.old ≡ 4096) }
-    ensures { Noted stored.now at shift out.old 16 out.new }
+fn note_sixteen(sixteen: &[u8; 16], shift: u8, out: &mut [u8])
+    requires { length out.old ≡ 4096 }
+    ensures { Noted sixteen.now shift out.old 16 out.new }
 {
-    let mut r: usize = 0;
-    while r < 16 {
-        let v = wide(std::num::wrapping_sub_u8(stored[at + r], shift));
+    for r in 0..16 {
+        let v = usize::from(sixteen[r].wrapping_sub(shift));
         let i = r * 256 + v;
-        out[i] = std::num::wrapping_add_u8(out[i], 1);
-        r += 1;
+        out[i] = out[i].wrapping_add(1);
     }
 }

@@ -1,7 +1,7 @@
 -- Where rows start, put one by one, with zeros behind them and how many they are before them. Assumes nothing.
 use Prim.Native.Nat.{ℕ, ◌+◌, ◌-◌, ◌*◌, ◌≤◌}
-use mathlib.Core.Path.{◌≡◌, refl, subst, ◌∙◌}
-use mathlib.Core.List.{List, ◌++◌}
+use mathlib.Core.Path.{◌≡◌, refl, ap, subst, ◌∙◌}
+use mathlib.Core.List.{List, [], ◌++◌}
 use native.Mathlib.Omega.{arith}
 use lib.ListN.{length, replicate, length-replicate, get_or-eq_default}
 use Rattle.lists.specs.Bytes.{byte_at}
@@ -9,7 +9,7 @@ use Rattle.lists.specs.Pieces.{joined}
 use Rattle.numbers.specs.Numbers.{little_bytes}
 use Rattle.numbers.specs.Writes.{Wrote}
 use Rattle.numbers.proofs.Widths.{little-long}
-use Rattle.numbers.proofs.Stored.{wrote-same}
+use Rattle.numbers.proofs.Stored.{wrote-same, past-fit}
 use Rattle.numbers.proofs.Kept.{wrote_then, wrote-earlier}
 use Rattle.fields.specs.Fields.{width_of, field_bytes, size_of, layout_bytes, pair_entry, Put}
 use Rattle.fields.proofs.Sizes.{fields-long, table-size}
@@ -47,3 +47,18 @@ module _ (rows l : List ℕ) (a n : ℕ) (many : n ≡ length rows) (few : n ≤
       let e : a + 2 + length (layout_bytes (slots_fields rows)) ≡ a + (2 + slots_size) = omega arith in
       subst (λ (k : ℕ). Wrote l a (little_bytes 2 k ++ layout_bytes (slots_fields rows)) after (a + (2 + slots_size))) many
       (subst (λ (k : ℕ). Wrote l a (little_bytes 2 n ++ layout_bytes (slots_fields rows)) after k) e (wrote-earlier whole count (omega arith) (omega arith)))
+
+  -- the place behind the rows that were put
+  pub starts-next : {after : List ℕ} {next : ℕ} → Put l a (joined (pair_entry rows) n) after next → a + 2 * n ≤ length l → next ≡ a + 2 * n
+  starts-next q h =
+      let w = layout-put entries-size q h in
+      let long : length (layout_bytes (joined (pair_entry rows) n)) ≡ 2 * n = fields-long (joined (pair_entry rows) n) ∙ entries-size in
+      w.place ∙ past-fit l a (length (layout_bytes (joined (pair_entry rows) n))) (omega arith) ∙ omega arith
+
+-- no rows at all are zeros
+none-zeros : replicate (2 + slots_size) 0 ≡ layout_bytes (list_fields [])
+unfolding list_fields slots_fields layout_bytes field_bytes joined little_bytes
+none-zeros = ap (λ (l : List ℕ). little_bytes 2 0 ++ l) (pairs-padded [] 0 slots_size 1024 (omega arith) (omega arith) (λ k h. refl))
+
+pub no-rows : {l after : List ℕ} {a next : ℕ} → Wrote l a (replicate (2 + slots_size) 0) after next → Wrote l a (layout_bytes (list_fields [])) after next
+no-rows w = wrote-same none-zeros w

@@ -1,5 +1,6 @@
 -- The rows of a falling directory: read from its far end, the kept offsets ascend. Assumes nothing.
 use Prim.Native.Nat.{ℕ, zero, suc, ◌+◌, ◌-◌, ◌*◌, ◌≤◌, ◌<◌}
+use Rattle.std.proofs.Common.{Option, None}
 use mathlib.Core.Path.{◌≡◌, refl, sym, ap, ◌∙◌, subst}
 use mathlib.Core.List.{List, [], ◌∷◌, ◌++◌, append-nil}
 use mathlib.Core.Bool.{Bool, true, false, ◌&&◌, not}
@@ -7,7 +8,7 @@ use native.Mathlib.Omega.{arith}
 use native.Mathlib.Nat.{not-suc-le-zero}
 use lib.ListN.{length}
 use lib.Dec.{ltb, leb}
-use borrow.Author.Tests.{lt-ltb, le-ltb, le-leb, lt-leb, leb-true, leb-false, ltb-true}
+use borrow.Author.Tests.{lt-leb, ltb-true}
 use Rattle.lists.specs.Cases.{pick}
 use Rattle.lists.specs.Bytes.{pair_at}
 use Rattle.lists.specs.Pieces.{each, keep}
@@ -16,9 +17,8 @@ use Rattle.lists.proofs.Keep.{keep_append}
 use Rattle.directory.specs.Directory.{slots_of, Falls}
 use Rattle.lists.specs.Sorting.{insert}
 use Rattle.lists.proofs.Sorting.{insert-length}
-use Rattle.rows.specs.Rows.{is_kept, ascending, rows_at, from_end, head_or, row_in}
+use Rattle.rows.specs.Rows.{is_kept, ascending, rows_at, from_end, head_or, At, row_in}
 use Rattle.rows.specs.declared.spans.Span.{Span}
-use Rattle.rows.specs.declared.spans.Span.TheVariants.{At, NoRow}
 
 -- v is below every element
 abbrev Above : ℕ → List ℕ → Type 0
@@ -103,29 +103,8 @@ pub rows_end : (plain : List ℕ) (start count : ℕ) → Falls 0xFF0 (slots_of 
 unfolding rows_at
 rows_end plain start count d = ascending-end plain start (start + 2 * count) 0xFF0 count d
 
--- the kept test, by the tests in their order
-module _ (s e v : ℕ) where
-  pub kept-zero : v ≡ 0 → false ≡ is_kept s e v
-  unfolding is_kept
-  kept-zero z = rw (le-ltb 0 v (omega arith)) refl
-
-  pub kept-before : (v ≡ 0 → ⊥) → v < s → true ≡ is_kept s e v
-  unfolding is_kept
-  kept-before n h = rw (lt-ltb 0 v (omega arith), lt-leb s v h) refl
-
-  turn : leb e v ≡ not (ltb v e)
-  turn = go (leb e v) refl
-    where
-      go : (b : Bool) → leb e v ≡ b → b ≡ not (ltb v e)
-      go true q = rw (le-ltb v e (leb-true e v q)) refl
-      go false q = rw (lt-ltb v e (leb-false e v q)) refl
-
-  pub kept-after : (v ≡ 0 → ⊥) → s ≤ v → leb e v ≡ is_kept s e v
-  unfolding is_kept
-  kept-after n h = rw (lt-ltb 0 v (omega arith), le-leb s v h) turn
-
 -- what is left to find: the row's number among the offsets to come, or, once its offset is known, its end
-pub sought : ℕ → ℕ → List ℕ → Span
+pub sought : ℕ → ℕ → List ℕ → Option Span
 sought zero left l = row_in left l
 sought (suc o) left l = At (suc o) (head_or 0xFF0 l)
 
@@ -154,7 +133,7 @@ unfolding sought
 sought-end zero left n = absurd (n refl)
 sought-end (suc o) left n = refl
 
-sought-none : (left : ℕ) → sought 0 left [] ≡ NoRow
+sought-none : (left : ℕ) → sought 0 left [] ≡ None
 unfolding sought row_in
 sought-none zero = refl
 sought-none (suc left) = refl
@@ -199,7 +178,7 @@ module _ (plain : List ℕ) (start count r stop k left o : ℕ) (g : Seeking pla
     pub seek-end : (o ≡ 0 → ⊥) → At o 0xFF0 ≡ row_in r (rows_at plain start count)
     seek-end n = sym (seek-over ∙ sought-end o left n)
 
-    pub seek-none : o ≡ 0 → NoRow ≡ row_in r (rows_at plain start count)
+    pub seek-none : o ≡ 0 → None ≡ row_in r (rows_at plain start count)
     seek-none z = sym (seek-over ∙ rw z (sought-none left))
 
 -- how many rows: as many as kept slots

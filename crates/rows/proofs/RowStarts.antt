@@ -1,7 +1,7 @@
 -- Laws of where the rows start, as they are listed from the directory's far end into a lent buffer. Assumes nothing.
-use Prim.Native.Nat.{ℕ, suc, ◌+◌, ◌-◌, ◌*◌, ◌≤◌, ◌<◌}
+use Prim.Native.Nat.{ℕ, zero, suc, ◌+◌, ◌-◌, ◌*◌, ◌≤◌, ◌<◌}
 use mathlib.Core.Path.{◌≡◌, refl, sym, ap, ◌∙◌}
-use mathlib.Core.List.{List, ◌∷◌}
+use mathlib.Core.List.{List, [], ◌∷◌}
 use mathlib.Core.Bool.{Bool, true, false}
 use native.Mathlib.Omega.{arith}
 use lib.ListN.{length, take, drop, get_or, set, length-take, length-drop}
@@ -10,16 +10,15 @@ use Rattle.lists.specs.Bytes.{byte_at, pair_at}
 use Rattle.lists.specs.Pieces.{over}
 use Rattle.lists.proofs.Over.{over-length}
 use Rattle.lists.proofs.Filled.{fill_none, front-more, fill-all}
-use Rattle.answers.specs.declared.kinds.Answer.{Answer}
-use Rattle.directory.specs.Directory.{slots_of, Falls}
-use Rattle.directory.specs.Decisions.{answer_of, decision_of}
-use Rattle.slotted.specs.Parses.{parsed_of}
+use Rattle.std.proofs.Common.{Ok, Err}
+use Rattle.answers.specs.declared.kinds.Refusal.{Refusal}
 use Rattle.directory.specs.declared.verdicts.Decided.{Decided}
-use Rattle.slotted.proofs.Parses.{answer-is}
+use Rattle.directory.specs.Directory.{slots_of, Falls}
+use Rattle.directory.specs.Decisions.{page_decision}
 use Rattle.rows.specs.Rows.{is_kept, rows_at, from_end}
 use Rattle.rows.specs.RowAnswers.{rows_in, rows_of, starts_in, StartsWritten, StartsListed}
 use Rattle.rows.proofs.FarEnd.{rows_end, end_kept, end-not}
-use Rattle.rows.proofs.RowAnswers.{rows-decided}
+use Rattle.rows.proofs.RowAnswers.{rows-decided, rows-refused, after-refused, counted-rows}
 
 -- what holds when `len` rows are listed, with k slots to go: those to come are the other rows
 pub record Listing (plain : List ℕ) (start count stop k len : ℕ) : Type 0 where
@@ -98,15 +97,30 @@ module _ (rows l : List ℕ) where
     pub starts-done : len ≡ length rows → out ≡ starts_in rows l
     starts-done e = o ∙ fill-all l src 0 len (omega (arith, length-take (length l) rows))
 
--- the whole, of a decision
-pub starts-decided :
-    (lim number : ℕ) (plain : List ℕ) (lenient : Bool) (d : Decided) (x : Answer) (n : ℕ) (l out : List ℕ)
-    → d ≡ decision_of lim plain lenient
-    → x ≡ answer_of number d.verdict
-    → StartsListed (rows_in plain d.listed) l out n
-    → StartsWritten lim number plain lenient l out (record { answer = x; rows = n })
-starts-decided lim number plain lenient d x n l out e ex w =
-    let same : rows_in plain d.listed ≡ rows_of lim plain lenient = rows-decided lim plain lenient d e in
-    let answered : x ≡ (parsed_of lim number plain lenient).answer = answer-is lim number plain lenient d e x ex in
-    let many : n ≡ length (rows_of lim plain lenient) = w.many ∙ ap length same in
-    record { counted = λ i. record { answer = answered i; rows = many i }; written = w.written ∙ ap (λ (rows : List ℕ). starts_in rows l) same }
+-- no rows are listed
+take-none : (n : ℕ) → take {A = ℕ} n [] ≡ []
+take-none zero = refl
+take-none (suc n) = refl
+
+pub nothing-listed : (l : List ℕ) → StartsListed [] l l 0
+nothing-listed l = record { many = refl; written = starts_none [] l ∙ ap (over l 0) (sym (take-none (length l))) }
+
+-- the whole, of what is decided
+module _ (lim number : ℕ) (plain : List ℕ) (lenient : Bool) (l : List ℕ) where
+  pub starts-decided :
+      (out : List ℕ) (d : Decided) (n : ℕ)
+      → Ok d ≡ page_decision lim number plain lenient
+      → StartsListed (rows_in plain d.listed) l out n
+      → StartsWritten lim number plain lenient l out (Ok n)
+  starts-decided out d n e w =
+      record {
+        counted = counted-rows lim number plain lenient d n e w.many;
+        written = w.written ∙ ap (λ (rows : List ℕ). starts_in rows l) (rows-decided lim number plain lenient d e);
+      }
+
+  pub starts-refused : (x : Refusal) → Err x ≡ page_decision lim number plain lenient → StartsWritten lim number plain lenient l l (Err x)
+  starts-refused x e =
+      record {
+        counted = after-refused lim number plain lenient (Ok (length (rows_of lim plain lenient))) x e;
+        written = (nothing-listed l).written ∙ ap (λ (rows : List ℕ). starts_in rows l) (rows-refused lim number plain lenient x e);
+      }

@@ -1,5 +1,5 @@
 -- Document 01, "Slots and rows": the rows of a directory at `start` with `count` slots. Assumes nothing.
-use Rattle.std.specs.Prelude.{ℕ, zero, suc, ◌+◌, ◌-◌, ◌*◌, ◌<◌, ◌≡◌, List, [], ◌∷◌, Bool, false, ◌&&◌, not, ltb, leb, length, take, drop}
+use Rattle.std.specs.Prelude.{ℕ, zero, suc, ◌+◌, ◌-◌, ◌*◌, ◌<◌, ◌≡◌, List, [], ◌∷◌, Bool, false, ◌&&◌, not, ltb, leb, length, take, drop, Option, Some, None}
 use Rattle.std.specs.Borrow.{Bor}
 use Rattle.lists.specs.Cases.{pick}
 use Rattle.lists.specs.Bytes.{byte_at, pair_at}
@@ -9,7 +9,6 @@ use Rattle.lists.specs.Pieces.{keep}
 use Rattle.directory.specs.Directory.{slots_of}
 use Rattle.rows.specs.declared.spans.Row.{Row}
 use Rattle.rows.specs.declared.spans.Span.{Span}
-use Rattle.rows.specs.declared.spans.Span.TheVariants.{At, NoRow}
 
 -- "a kept live offset": not dropped
 unfoldable pub is_kept : ℕ → ℕ → ℕ → Bool
@@ -42,26 +41,29 @@ abbrev pub head_or : ℕ → List ℕ → ℕ
 head_or d [] = d
 head_or d (x ∷ l) = x
 
-unfoldable pub row_in : ℕ → List ℕ → Span
-row_in r [] = NoRow
+abbrev pub At : ℕ → ℕ → Option Span
+At o e = Some (record { offset = o; end = e })
+
+unfoldable pub row_in : ℕ → List ℕ → Option Span
+row_in r [] = None
 row_in zero (o ∷ l) = At o (head_or 0xFF0 l)
 row_in (suc r) (o ∷ l) = row_in r l
 
-abbrev pub start_of : Span → ℕ
-start_of (At o e) = o
-start_of NoRow = 0
+abbrev pub start_of : Option Span → ℕ
+start_of (Some s) = s.offset
+start_of None = 0
 
-abbrev pub end_of : Span → ℕ
-end_of (At o e) = e
-end_of NoRow = 0
+abbrev pub end_of : Option Span → ℕ
+end_of (Some s) = s.end
+end_of None = 0
 
 -- "answers that part of the lent plaintext itself": p starts where the row does in s, and holds those bytes of s; the empty part is at 0
-pub record IsPart (s p : Bor (List ℕ)) (a : Span) : Type 0 where
+pub record IsPart (s p : Bor (List ℕ)) (a : Option Span) : Type 0 where
   pub place : p.ref_ptr ≡ (s.ref_ptr.0, start_of a + s.ref_ptr.1)
   pub bytes : p.now ≡ take (end_of a - start_of a) (drop (start_of a) s.now)
 
 -- "`Row` holds its part of the plaintext: first offset and end, then the record"; "its exact mark is always false"
-pub record IsRow (s : Bor (List ℕ)) (a : Span) (w : Row) : Type 0 where
+pub record IsRow (s : Bor (List ℕ)) (a : Option Span) (w : Row) : Type 0 where
   pub starts : w.offset ≡ start_of a
   pub part : IsPart s w.bytes a
   pub inexact : w.exact ≡ false

@@ -9,7 +9,7 @@ mod spans;
 mod starts;
 
 pub use spans::{
-    Row, RowFound, RowsCounted, Span, is_kept, row_answer, row_at, row_bytes, row_count, row_found,
-    row_span, rows_counted,
+    Row, Span, end_of, is_kept, row_answer, row_at, row_bytes, row_count, row_found, row_span,
+    rows_counted, start_of,
 };
 pub use starts::row_starts;

@@ -1,7 +1,7 @@
 -- All bytes of a list are equal where all are the first, and where its modal count is its length. Assumes nothing.
-use Rattle.std.proofs.Common.{◌≡◌, ℕ, suc, ◌<◌, ◌≤◌, Bool, true, false, eqb, List, [], ◌∷◌, length, get_or, refl, ap, arith, eq-eqb, ne_eqb, eqb-true}
+use Rattle.std.proofs.Common.{◌≡◌, ℕ, suc, ◌<◌, ◌≤◌, Bool, true, false, eqb, List, [], ◌∷◌, length, refl, ap, arith, eq-eqb, ne_eqb, eqb-true}
+use Rattle.std.proofs.Common.{slice_get, Some, None}
 use native.Mathlib.Decide.{ℕ_discrete}
-use Rattle.lists.specs.Cases.{pick}
 use Rattle.lists.specs.Counts.{count, all_are, all_same}
 use Rattle.lists.proofs.Count.{count-le, count-here, count-there}
 use Rattle.lists.proofs.Greatest.{greatest-above, greatest-below}
@@ -10,10 +10,16 @@ use Rattle.sector.specs.Byte.{shifted_of}
 use Rattle.sector.specs.Fit.{shift_from, shifted_list, modal_of, modal_at}
 use Rattle.sector.proofs.Bytes.{shifted-byte}
 
-pub same_first : (l : List ℕ) → (length l ≡ 0 → ⊥) → all_are (get_or l 0 0) l ≡ all_same l
+-- all are equal where all are the first, or there is none
+pub same_first : (l : List ℕ) (x : ℕ) → slice_get l 0 ≡ Some x → all_are x l ≡ all_same l
 unfolding all_are all_same
-same_first [] n = absurd (n refl)
-same_first (x ∷ l) n = ap (λ (t : Bool). pick t (all_are x l) false) (eq-eqb x x refl)
+same_first [] x e = grind (arith, e)
+same_first (y ∷ l) x e = grind (arith, eq-eqb x x refl, e)
+
+pub same_empty : (l : List ℕ) → slice_get l 0 ≡ None → true ≡ all_same l
+unfolding all_same
+same_empty [] e = refl
+same_empty (x ∷ l) e = grind (arith, e)
 
 modal-le : (l : List ℕ) → modal_of l ≤ length l
 unfolding modal_of

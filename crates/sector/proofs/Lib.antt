@@ -1,6 +1,7 @@
 -- Laws of the shifted bytes and of the fit, by subject.
 pub mod Meaning
 pub mod Bytes
+pub mod Folds
 pub mod Shifts
 pub mod Leads
 pub mod Sorted

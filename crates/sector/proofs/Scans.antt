@@ -1,27 +1,26 @@
 -- The scan of a sector by its two checks, and where both pass. Assumes nothing.
-use Rattle.std.proofs.Common.{◌≡◌, ℕ, ◌<◌, ◌≤◌, List, length, eq-eqb, ne_eqb, le-leb}
+use Rattle.std.proofs.Common.{◌≡◌, ℕ, ◌<◌, ◌≤◌, List, length, eq-eqb, ne_eqb, le-leb, ◌⊎◌, inl, inr}
 use borrow.Author.Tests.{lt-leb}
 use Rattle.sector.specs.Fit.{shifted_list, modal_at, fit_of, sector_of}
-use Rattle.sector.specs.Scan.{blank_fit, sector_fit, sector_out, sector_modal, sector_shifted}
+use Rattle.sector.specs.Scan.{blank_fit, if_scanned, sector_fit, sector_out, sector_modal, sector_shifted}
+
+-- a check fails: there are too many bytes, or the buffer has another length
+abbrev pub Refused : ℕ → ℕ → Type 0
+Refused n m = (512 < n) ⊎ ((n ≤ 512) × (m ≡ n → ⊥))
+
+scanned-not : {A : Type 0} (n m : ℕ) (x y : A) → Refused n m → y ≡ if_scanned n m x y
+scanned-not n m x y (inl h) = rw (lt-leb n 512 h)
+scanned-not n m x y (inr r) = rw (le-leb n 512 r.0, ne_eqb m n r.1)
 
 module _ (o : ℕ) (l out : List ℕ) where
-  module _ (h : 512 < length l) where
-    pub fit-long : blank_fit ≡ sector_fit o l (length out)
+  module _ (refused : Refused (length l) (length out)) where
+    pub fit-refused : blank_fit ≡ sector_fit o l (length out)
     unfolding sector_fit
-    fit-long = rw (lt-leb (length l) 512 h)
+    fit-refused = scanned-not (length l) (length out) _ _ refused
 
-    pub out-long : out ≡ sector_out o l out
+    pub out-refused : out ≡ sector_out o l out
     unfolding sector_out
-    out-long = rw (lt-leb (length l) 512 h)
-
-  module _ (h : length l ≤ 512) (ne : length out ≡ length l → ⊥) where
-    pub fit-other : blank_fit ≡ sector_fit o l (length out)
-    unfolding sector_fit
-    fit-other = rw (le-leb (length l) 512 h, ne_eqb (length out) (length l) ne)
-
-    pub out-other : out ≡ sector_out o l out
-    unfolding sector_out
-    out-other = rw (le-leb (length l) 512 h, ne_eqb (length out) (length l) ne)
+    out-refused = scanned-not (length l) (length out) _ _ refused
 
   module _ (h : length l ≤ 512) (e : length out ≡ length l) where
     pub fit-scanned : sector_fit o l (length out) ≡ fit_of o l
@@ -34,23 +33,14 @@ module _ (o : ℕ) (l out : List ℕ) where
 
 -- and for one step
 module _ (o : ℕ) (l : List ℕ) (step : ℕ) (out : List ℕ) where
-  module _ (h : 512 < length l) where
-    pub modal-long : 0 ≡ sector_modal o l step (length out)
+  module _ (refused : Refused (length l) (length out)) where
+    pub modal-refused : 0 ≡ sector_modal o l step (length out)
     unfolding sector_modal
-    modal-long = rw (lt-leb (length l) 512 h)
+    modal-refused = scanned-not (length l) (length out) _ _ refused
 
-    pub shifted-long : out ≡ sector_shifted o l step out
+    pub shifted-refused : out ≡ sector_shifted o l step out
     unfolding sector_shifted
-    shifted-long = rw (lt-leb (length l) 512 h)
-
-  module _ (h : length l ≤ 512) (ne : length out ≡ length l → ⊥) where
-    pub modal-other : 0 ≡ sector_modal o l step (length out)
-    unfolding sector_modal
-    modal-other = rw (le-leb (length l) 512 h, ne_eqb (length out) (length l) ne)
-
-    pub shifted-other : out ≡ sector_shifted o l step out
-    unfolding sector_shifted
-    shifted-other = rw (le-leb (length l) 512 h, ne_eqb (length out) (length l) ne)
+    shifted-refused = scanned-not (length l) (length out) _ _ refused
 
   module _ (h : length l ≤ 512) (e : length out ≡ length l) where
     pub modal-scanned : sector_modal o l step (length out) ≡ modal_at o l step

@@ -5,7 +5,7 @@ ghost use Rattle.sector.specs.Scan.{blank_fit, blank_fits};
 
 // The step of a sector, the bytes that agree under it, the bytes that agree under the next best, whether all agree, and how many of the
 // 256 steps reach that peak.
-#[derive(Clone, Copy)]
+#[derive(Clone, Copy, PartialEq, Eq, Default)]
 pub struct Fit {
     pub step: u8,
     pub peak: u16,
@@ -25,32 +25,22 @@ impl Fit {
     pub fn blank() -> Self
         ensures { result ≡ blank_fit }
     {
-        Fit {
-            step: 0,
-            peak: 0,
-            runner_up: 0,
-            exact: false,
-            tied: 0,
-        }
+        Fit::default()
     }
 
     // And of a page that was not scanned.
     pub fn blanks() -> [Self; 8]
         ensures { result ≡ blank_fits }
     {
-        let blank = Fit::blank();
-        [blank; 8]
+        [Fit::blank(); 8]
     }
 
     // The step is beyond doubt. Of what no scan gives, too: the sum cannot wrap.
     pub fn confident(self) -> bool
         ensures { result ≡ confident_of self }
     {
-        if self.exact {
-            return true;
-        }
-        let peak = self.peak as u32;
-        let runner_up = self.runner_up as u32;
-        peak >= Fit::MIN_STEP_PEAK && peak >= runner_up + Fit::MIN_STEP_LEAD
+        let peak = u32::from(self.peak);
+        let lead = u32::from(self.runner_up) + Fit::MIN_STEP_LEAD;
+        self.exact || (peak >= Fit::MIN_STEP_PEAK && peak >= lead)
     }
 }

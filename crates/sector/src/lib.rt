@@ -11,7 +11,7 @@ mod same;
 mod scan;
 mod search;
 
-pub use arith::{ap_offset, shifted, wrapping_mul_u8};
+pub use arith::{ap_offset, shifted};
 pub use fits::Fit;
 pub use same::all_same;
 pub use scan::{modal_count, scan_sector, write_shifted};

@@ -7,8 +7,8 @@ use numbers::all_are;
 pub fn all_same(part: &[u8]) -> bool
     ensures { result ≡ all_same part.now }
 {
-    if part.len() == 0 {
-        return true;
+    match part.first() {
+        Some(x) => all_are(part, *x),
+        None => true,
     }
-    all_are(part, part[0])
 }

@@ -8,22 +8,17 @@ ghost use Rattle.sector.specs.Scan.{sector_fit, sector_out, sector_modal, sector
 use crate::arith::shifted;
 use crate::fits::Fit;
 use crate::search::table_fit;
-use numbers::wide;
 
 // The fit of a sector of at most 512 bytes; its shifted bytes go into `out`, which has its length. Else a blank, and `out` stays.
 pub fn scan_sector(stored: &[u8], offset: u8, out: &mut [u8]) -> Fit
     ensures value { result ≡ sector_fit offset stored.now (length out.old) }
     ensures out_after { out.new ≡ sector_out offset stored.now out.old }
 {
-    if stored.len() > 512 {
-        return Fit::blank();
-    }
-    if out.len() != stored.len() {
+    if stored.len() > 512 || out.len() != stored.len() {
         return Fit::blank();
     }
     let fit = fit_of(stored, offset, out);
-    let step = fit.step;
-    write_shifted(stored, offset, step, out);
+    write_shifted(stored, offset, fit.step, out);
     fit
 }
 
@@ -33,10 +28,7 @@ pub fn modal_count(stored: &[u8], offset: u8, step: u8, room: &mut [u8]) -> u16
     ensures value { result ≡ sector_modal offset stored.now step (length room.old) }
     ensures room_after { room.new ≡ sector_shifted offset stored.now step room.old }
 {
-    if stored.len() > 512 {
-        return 0;
-    }
-    if room.len() != stored.len() {
+    if stored.len() > 512 || room.len() != stored.len() {
         return 0;
     }
     write_shifted(stored, offset, step, room);
@@ -47,16 +39,11 @@ pub fn modal_count(stored: &[u8], offset: u8, step: u8, room: &mut [u8]) -> u16
 pub fn write_shifted(stored: &[u8], offset: u8, step: u8, out: &mut [u8])
     ensures { out.new ≡ sector_shifted offset stored.now step out.old }
 {
-    if stored.len() > 512 {
+    if stored.len() > 512 || out.len() != stored.len() {
         return;
     }
-    if out.len() != stored.len() {
-        return;
-    }
-    let mut i: usize = 0;
-    while i < out.len() {
-        out[i] = shifted(stored[i], offset, i, step);
-        i += 1;
+    for (i, b) in stored.iter().enumerate() {
+        out[i] = shifted(*b, offset, i, step);
     }
 }
 
@@ -74,10 +61,8 @@ fn modal_counts(stored: &[u8], offset: u8, room: &mut [u8]) -> [u16; 256]
     ensures { result ≡ each (modal_at offset stored.now) 256 }
 {
     let mut counts = [0u16; 256];
-    let mut step: usize = 0;
-    while step < 256 {
+    for step in 0..256 {
         counts[step] = modal_count(stored, offset, step as u8, room);
-        step += 1;
     }
     counts
 }
@@ -87,11 +72,8 @@ fn histogram(bytes: &[u8]) -> [u16; 256]
     ensures { Tallies 256 result bytes.now }
 {
     let mut hist = [0u16; 256];
-    let mut i: usize = 0;
-    while i < bytes.len() {
-        let v = wide(bytes[i]);
-        hist[v] = hist[v] + 1;
-        i += 1;
+    for x in bytes {
+        hist[usize::from(*x)] += 1;
     }
     hist
 }
@@ -99,13 +81,5 @@ fn histogram(bytes: &[u8]) -> [u16; 256]
 fn largest(hist: [u16; 256]) -> u16
     ensures { result ≡ greatest (λ v. slice_index hist v) 256 }
 {
-    let mut most: u16 = 0;
-    let mut v: usize = 0;
-    while v < 256 {
-        if hist[v] > most {
-            most = hist[v];
-        }
-        v += 1;
-    }
-    most
+    hist.iter().fold(0, |most, n| most.max(*n))
 }

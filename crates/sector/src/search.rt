@@ -3,7 +3,6 @@ ghost use Rattle.std.specs.Prelude.{◌≡◌};
 ghost use Rattle.sector.specs.Fit.{table_fit};
 
 use crate::fits::Fit;
-use numbers::{long, long16};
 
 // The fit of a sector of `n` bytes. A greater count begins the number of tied steps anew; an equal one adds to it, and is the runner-up.
 pub fn table_fit(counts: [u16; 256], n: usize) -> Fit
@@ -13,8 +12,7 @@ pub fn table_fit(counts: [u16; 256], n: usize) -> Fit
     let mut best: u16 = 0;
     let mut runner_up: u16 = 0;
     let mut tied: u16 = 0;
-    let mut step: usize = 0;
-    while step < 256 {
+    for step in 0..256 {
         let peak = counts[step];
         if peak > best {
             runner_up = best;
@@ -29,9 +27,8 @@ pub fn table_fit(counts: [u16; 256], n: usize) -> Fit
                 runner_up = peak;
             }
         }
-        step += 1;
     }
-    let exact = long16(best) == long(n);
+    let exact = usize::from(best) == n;
     Fit {
         step: best_step,
         peak: best,

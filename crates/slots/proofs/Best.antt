@@ -1,13 +1,11 @@
 -- What the scan's directory is: the scan with the most live slots, then the most slots, then the earliest start; none where no start has
 -- four live slots. Assumes nothing.
-use Rattle.std.proofs.Common.{◌≡◌, ℕ, zero, suc, ◌<◌, ◌≤◌, Bool, true, false, leb, ◌⊎◌, List, sym, refl, ap, subst, inl, inr, ⊎_elim, le_of_suc-le-suc, not-suc-le-zero, eq-or-lt_of_le, arith, leb-false, leb-true}
+use Rattle.std.proofs.Common.{Option, Some, None, ◌≡◌, ℕ, zero, suc, ◌<◌, ◌≤◌, Bool, true, false, leb, ◌⊎◌, List, sym, refl, ap, subst, inl, inr, ⊎_elim, le_of_suc-le-suc, not-suc-le-zero, eq-or-lt_of_le, arith, leb-false, leb-true}
 use mathlib.Core.Bool.{false≢true}
 use Rattle.lists.specs.Cases.{pick}
 use Rattle.slots.specs.Slots.{scan_from, stronger, no_scan, best_scan, directory_from, scanned_directory}
 use Rattle.slots.specs.Best.{More, Not-more, Best, ScanFinds}
 use Rattle.slots.specs.declared.scans.Scan.{Scan}
-use Rattle.slots.specs.declared.scans.Found.{Found}
-use Rattle.slots.specs.declared.scans.Found.TheVariants.{Directory, Nothing}
 use Rattle.slots.proofs.Scanned.{decide, strong-more, strong-not}
 
 more-not : (b c x : Scan) → More b c → Not-more b x → Not-more c x
@@ -62,22 +60,22 @@ module _ (lim : ℕ) (p : List ℕ) where
       })
 
   -- the theorem
-  pub scanned-best : (d : Scan) → scanned_directory lim p ≡ Directory d → Best lim p lim d × (4 ≤ d.live)
+  pub scanned-best : (d : Scan) → scanned_directory lim p ≡ Some d → Best lim p lim d × (4 ≤ d.live)
   unfolding scanned_directory directory_from None-yet
   scanned-best d q = go (leb 4 (best_scan lim p lim).live) refl (best-is lim) q
     where
       b : Scan
       b = best_scan lim p lim
 
-      is : Found → Scan
-      is Nothing = b
-      is (Directory x) = x
+      is : Option Scan → Scan
+      is None = b
+      is (Some x) = x
 
-      some : Found → Bool
-      some Nothing = false
-      some (Directory x) = true
+      some : Option Scan → Bool
+      some None = false
+      some (Some x) = true
 
-      go : (t : Bool) → leb 4 b.live ≡ t → None-yet lim b ⊎ Best lim p lim b → pick t (Directory b) Nothing ≡ Directory d → Best lim p lim d × (4 ≤ d.live)
+      go : (t : Bool) → leb 4 b.live ≡ t → None-yet lim b ⊎ Best lim p lim b → pick t (Some b) None ≡ Some d → Best lim p lim d × (4 ≤ d.live)
       go false k h z = absurd (false≢true (ap some z))
       go true k (inl h) z =
           let e : b.live ≡ 0 = ap (λ (x : Scan). x.live) h.0 in
@@ -85,22 +83,22 @@ module _ (lim : ℕ) (p : List ℕ) where
           absurd (omega arith)
       go true k (inr h) z = subst (λ (x : Scan). Best lim p lim x × (4 ≤ x.live)) (ap is z) (h, leb-true 4 b.live k)
 
-  pub scanned-nothing : scanned_directory lim p ≡ Nothing → (s : ℕ) → s < lim → (scan_from lim p s).live < 4
+  pub scanned-nothing : scanned_directory lim p ≡ None → (s : ℕ) → s < lim → (scan_from lim p s).live < 4
   unfolding scanned_directory directory_from None-yet
   scanned-nothing q s l = go (leb 4 (best_scan lim p lim).live) refl (best-is lim) q
     where
       b : Scan
       b = best_scan lim p lim
 
-      some : Found → Bool
-      some Nothing = false
-      some (Directory x) = true
+      some : Option Scan → Bool
+      some None = false
+      some (Some x) = true
 
       few : Not-more b (scan_from lim p s) → b.live < 4 → (scan_from lim p s).live < 4
       few (inl h) k = omega arith
       few (inr h) k = omega arith
 
-      go : (t : Bool) → leb 4 b.live ≡ t → None-yet lim b ⊎ Best lim p lim b → pick t (Directory b) Nothing ≡ Nothing → (scan_from lim p s).live < 4
+      go : (t : Bool) → leb 4 b.live ≡ t → None-yet lim b ⊎ Best lim p lim b → pick t (Some b) None ≡ None → (scan_from lim p s).live < 4
       go true k h z = absurd (false≢true (sym (ap some z)))
       go false k (inl h) z = few (h.1 s l) (leb-false 4 b.live k)
       go false k (inr h) z = few (h.none-better s l) (leb-false 4 b.live k)

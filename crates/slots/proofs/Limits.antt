@@ -1,12 +1,11 @@
 -- A limit past the end of the bytes is the end: the scan reads nothing there. Assumes nothing.
-use Rattle.std.proofs.Common.{◌≡◌, ℕ, zero, suc, ◌+◌, ◌-◌, ◌<◌, ◌≤◌, Bool, true, false, eqb, ltb, leb, List, [], ◌∷◌, length, take, drop, sym, refl, ap, ◌∙◌, le_of_suc-le-suc, not-suc-le-zero, add-zero, add-suc, arith, ltb-false, ltb-true, eqb-true, leb-false, leb-true}
+use Rattle.std.proofs.Common.{Option, ◌≡◌, ℕ, zero, suc, ◌+◌, ◌-◌, ◌<◌, ◌≤◌, min, Bool, true, false, eqb, ltb, leb, List, [], ◌∷◌, length, take, drop, sym, refl, ap, ◌∙◌, le_of_suc-le-suc, not-suc-le-zero, add-zero, add-suc, arith, ltb-false, ltb-true, eqb-true, leb-false, leb-true}
 use borrow.Author.Tests.{eqb-false}
 use Rattle.lists.specs.Bytes.{plain_of, pair_at}
 use Rattle.lists.proofs.Plain.{plain-length}
 use Rattle.slots.specs.Slots.{is_offset, words, words_from, opening, slots_at, trim, live_of, array_start_of, scan_at, scan_from, stronger, best_scan, directory_from, scanned_directory}
 use Rattle.slots.specs.Sweep.{empty_scan}
 use Rattle.slots.specs.declared.scans.Scan.{Scan}
-use Rattle.slots.specs.declared.scans.Found.{Found}
 use Rattle.slots.proofs.Words.{words-here, words-past}
 use Rattle.slots.proofs.Scanned.{start-near, start-live, start-skips, start-stays, strong-empty}
 use Rattle.slots.proofs.Sweeps.{scan-empty, slots_end}
@@ -98,7 +97,21 @@ scanned-past lim p h =
     let e : length p + (lim - length p) ≡ lim = omega arith in
     ap directory_from (sym (best-past (length p) p (lim - length p)) ∙ ap (best_scan (length p) p) e ∙ sym (best-within lim p h lim))
 
-pub scanned-end : (lim bv : ℕ) (xs : List ℕ) (r : Found) → length xs ≤ lim → r ≡ scanned_directory (length xs) (plain_of bv xs) → r ≡ scanned_directory lim (plain_of bv xs)
-scanned-end lim bv xs r h e =
-    let n : length (plain_of bv xs) ≡ length xs = plain-length bv xs in
-    e ∙ ap (λ (k : ℕ). scanned_directory k (plain_of bv xs)) (sym n) ∙ scanned-past lim (plain_of bv xs) (omega arith)
+pub scanned_min : (lim bv : ℕ) (xs : List ℕ) (k : ℕ) (r : Option Scan) → k ≡ min lim (length xs) → r ≡ scanned_directory k (plain_of bv xs) → r ≡ scanned_directory lim (plain_of bv xs)
+scanned_min lim bv xs k r m e = go (leb (length xs) lim) refl
+  where
+    p : List ℕ
+    p = plain_of bv xs
+
+    n : length p ≡ length xs
+    n = plain-length bv xs
+
+    go : (b : Bool) → leb (length xs) lim ≡ b → r ≡ scanned_directory lim p
+    go true q =
+        let h : length xs ≤ lim = leb-true (length xs) lim q in
+        let f : k ≡ length p = omega (arith, n) in
+        e ∙ ap (λ (j : ℕ). scanned_directory j p) f ∙ scanned-past lim p (omega (arith, n))
+    go false q =
+        let h : lim < length xs = leb-false (length xs) lim q in
+        let f : k ≡ lim = omega arith in
+        e ∙ ap (λ (j : ℕ). scanned_directory j p) f

@@ -1,18 +1,14 @@
 -- Laws of the first look of the row-count test, and the theorem that it passes over no test that would pass. Assumes nothing.
-use Rattle.std.proofs.Common.{◌≡◌, ℕ, zero, suc, ◌+◌, ◌-◌, ◌<◌, ◌≤◌, min, Bool, true, false, ◌&&◌, ◌||◌, eqb, leb, List, [], ◌∷◌, length, take, drop, sym, refl, ap, ◌∙◌, ⊎_elim, le_of_suc-le-suc, not-suc-le-zero, add-zero, add-suc, eq-or-lt_of_le, add-one, arith, le-leb, leb-true}
+use Rattle.std.proofs.Common.{Option, Some, None, ◌≡◌, ℕ, zero, suc, ◌+◌, ◌-◌, ◌<◌, ◌≤◌, min, Bool, true, false, ◌&&◌, ◌||◌, eqb, leb, List, [], ◌∷◌, length, take, drop, sym, refl, ap, subst, ◌∙◌, ⊎_elim, le_of_suc-le-suc, not-suc-le-zero, add-zero, add-suc, eq-or-lt_of_le, add-one, arith, le-leb, leb-true}
 use borrow.Author.Tests.{lt-leb}
 use Rattle.lists.specs.Bytes.{plain_of, byte_at, pair_at}
-use Rattle.lists.proofs.Plain.{plain-length}
 use Rattle.lists.proofs.Booleans.{and_left, and_right, and_yes, and-no-left, or_case, or_yes_right}
 use Rattle.lists.proofs.Picks.{never_both}
 use Rattle.slots.specs.Slots.{is_offset, words_from, falling, opening, slots_at, live_of, scan_from, scanned_directory, counted_back, counted, row_count_matches}
 use Rattle.slots.specs.Pairs.{has_pair}
 use Rattle.slots.specs.Looks.{is_array, may_count_at, may_count, NeverPassedOver}
 use Rattle.slots.specs.declared.scans.Scan.{Scan}
-use Rattle.slots.specs.declared.scans.Found.{Found}
-use Rattle.slots.specs.declared.scans.Found.TheVariants.{Directory, Nothing}
 use Rattle.slots.proofs.Words.{words-here, words-end, offset-high, offset-pos, offset-yes, offset-small, falling-zero, falling-live, falling-other, falling-above}
-use Rattle.slots.proofs.Limits.{slots-within}
 use Rattle.slots.proofs.RowCounts.{not_there, part_at, directory-start}
 use Rattle.slots.proofs.Best.{scanned-best}
 
@@ -106,6 +102,9 @@ unfolding falling
 seen_end lim p at prev live pos g h =
     few-array lim p at live (g.rest ∙ ap (λ (l : List ℕ). live + live_of (falling prev l)) (words-end lim p pos h) ∙ live-nil live) g.few
 
+pub seen-to : {lim : ℕ} {p : List ℕ} {at prev live pos : ℕ} (to : ℕ) → pos ≡ to → Seen lim p at prev live pos → Seen lim p at prev live to
+seen-to {lim} {p} {at} {prev} {live} to e g = subst (Seen lim p at prev live) e g
+
 -- ---- the positions
 
 module _ (lim : ℕ) (p : List ℕ) (n : ℕ) where
@@ -154,45 +153,29 @@ module _ (lim : ℕ) (p : List ℕ) (n : ℕ) where
       let g : at + k + 1 ≡ at + suc k = omega arith in
       ap (may_count lim p n) (sym g) ∙ may_more (at + k) (may-passed at k e (λ i l. h i (omega arith))) (and-no-left _ _ (h k (omega arith)))
 
-  pub may-empty : (k : ℕ) → k ≡ 0 → false ≡ may_count lim p n k
-  may-empty k e = sym (ap (may_count lim p n) e ∙ may_none)
-
-  pub may-to : (i k : ℕ) (r : Bool) → i ≡ k → r ≡ may_count lim p n i → r ≡ may_count lim p n k
-  may-to i k r e q = q ∙ ap (may_count lim p n) e
-
-  -- a limit past the end of the bytes is the end
-  may-within : length p ≤ lim → (k : ℕ) → may_count lim p n k ≡ may_count (length p) p n k
-  unfolding may_count may_count_at is_array
-  may-within past zero = refl
-  may-within past (suc k) = rw (may-within past k, slots-within lim p past (k + 4), slots-within lim p past (k + 6)) refl
-
-pub may-end : (lim bv : ℕ) (xs : List ℕ) (n : ℕ) (r : Bool) → length xs ≤ lim → r ≡ may_count (length xs) (plain_of bv xs) n (length xs - 1) → r ≡ may_count lim (plain_of bv xs) n (min lim (length xs - 1))
-may-end lim bv xs n r h q =
-    let l : length (plain_of bv xs) ≡ length xs = plain-length bv xs in
-    let m : length xs - 1 ≡ min lim (length xs - 1) = omega arith in
-    q ∙ ap (λ (k : ℕ). may_count k (plain_of bv xs) n (length xs - 1)) (sym l) ∙ sym (may-within lim (plain_of bv xs) n (omega arith) (length xs - 1)) ∙ ap (may_count lim (plain_of bv xs) n) m
-
 -- a block of the bytes without the pair
 pub may-block :
-    (lim bv : ℕ) (xs : List ℕ) (n at k : ℕ)
+    (lim bv : ℕ) (xs p : List ℕ) (n at k m : ℕ)
     → k ≡ 65
     → at + 64 < length xs
+    → p ≡ plain_of bv (take k (drop at xs))
+    → m ≡ 64
     → may_count lim (plain_of bv xs) n at ≡ false
-    → has_pair n 0 (plain_of bv (take k (drop at xs))) 64 ≡ false
+    → has_pair n 0 p m ≡ false
     → may_count lim (plain_of bv xs) n (at + 64) ≡ false
-may-block lim bv xs n at k e h none_yet none-there = may-passed lim (plain_of bv xs) n at 64 none_yet none
+may-block lim bv xs p n at k m e h q g none_yet none-there = may-passed lim (plain_of bv xs) n at 64 none_yet none
   where
     none : (i : ℕ) → i < 64 → (eqb (byte_at (plain_of bv xs) (at + i)) n && eqb (byte_at (plain_of bv xs) (at + i + 1)) 0) ≡ false
     none i l =
         let f : at + (i + 1) ≡ at + i + 1 = omega arith in
         rw (← part_at bv xs at k i (omega arith) (omega arith), ← f, ← part_at bv xs at k (i + 1) (omega arith) (omega arith))
-        (not_there n 0 (plain_of bv (take k (drop at xs))) 64 none-there i l)
+        (not_there n 0 (plain_of bv (take k (drop at xs))) 64 (rw (← q, ← g) none-there) i l)
 
 -- ---- the theorem
 
 module _ (lim : ℕ) (p : List ℕ) (n t : ℕ) where
   -- a directory has four live slots where it starts
-  directory-array : (d : Scan) → scanned_directory lim p ≡ Directory d → is_array lim p d.start ≡ true
+  directory-array : (d : Scan) → scanned_directory lim p ≡ Some d → is_array lim p d.start ≡ true
   unfolding is_array scan_from
   directory-array d q =
       let b = scanned-best lim p d q in
@@ -212,10 +195,10 @@ module _ (lim : ℕ) (p : List ℕ) (n t : ℕ) where
   unfolding row_count_matches counted
   never-passed-over passes = go (scanned_directory lim p) refl (and_right (leb t n) _ passes)
     where
-      go : (r : Found) → r ≡ scanned_directory lim p → counted p n r ≡ true → may_count lim p n (min lim (length p - 1)) ≡ true
-      go Nothing q e = absurd (never_both refl e)
-      go (Directory d) q e =
-          let s : (d.start ≤ lim + 1) × (d.start ≤ length p + 1) = directory-start lim p (Directory d) d q refl in
+      go : (r : Option Scan) → r ≡ scanned_directory lim p → counted p n r ≡ true → may_count lim p n (min lim (length p - 1)) ≡ true
+      go None q e = absurd (never_both refl e)
+      go (Some d) q e =
+          let s : (d.start ≤ lim + 1) × (d.start ≤ length p + 1) = directory-start lim p (Some d) d q refl in
           let a : is_array lim p d.start ≡ true = directory-array d (sym q) in
           or_case _ (counted_back p d.start n 6) _ e
           (λ b. back-seen d.start 6 s.0 s.1 (omega arith) b (λ i f. or_yes_right (is_array lim p (i + 4)) _ (rw f a)))

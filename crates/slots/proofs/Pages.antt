@@ -1,6 +1,6 @@
 -- A plain page is the case bv = 0; and the scan reads nothing past its limit, so that a page's data and trailer answer what the data
 -- alone answers. Assumes nothing.
-use Rattle.std.proofs.Common.{◌≡◌, ℕ, zero, suc, ◌+◌, ◌-◌, ◌<◌, ◌≤◌, Bool, true, false, ◌&&◌, ◌||◌, eqb, ltb, leb, List, ◌++◌, length, get_or, drop, refl, ap, ◌∙◌, arith, ext_get_or, ltb-true, leb-true}
+use Rattle.std.proofs.Common.{Option, Some, None, ◌≡◌, ℕ, zero, suc, ◌+◌, ◌-◌, ◌<◌, ◌≤◌, Bool, true, false, ◌&&◌, ◌||◌, eqb, ltb, leb, List, ◌++◌, length, get_or, drop, refl, ap, ◌∙◌, arith, ext_get_or, ltb-true, leb-true}
 use lib.ListN.{get_or-append}
 use lib.Seq.{take-append-le}
 use Rattle.lists.specs.Cases.{pick}
@@ -8,8 +8,6 @@ use Rattle.lists.specs.Bytes.{less, plain_of, byte_at, pair_at}
 use Rattle.lists.proofs.Plain.{plain-length, plain_at}
 use Rattle.slots.specs.Slots.{is_offset, words, words_from, opening, slots_at, trim, live_of, array_start_of, scan_at, scan_from, stronger, best_scan, directory_from, scanned_directory, counted_back, counted, row_count_matches}
 use Rattle.slots.specs.declared.scans.Scan.{Scan}
-use Rattle.slots.specs.declared.scans.Found.{Found}
-use Rattle.slots.specs.declared.scans.Found.TheVariants.{Directory, Nothing}
 use Rattle.slots.proofs.RowCounts.{directory-start}
 
 -- a plain page is its own plaintext at bv = 0
@@ -74,12 +72,12 @@ module _ (a b : List ℕ) where
 
   pub matches-data : (lim n t : ℕ) → lim ≤ length a → row_count_matches lim (a ++ b) n t ≡ row_count_matches lim a n t
   unfolding row_count_matches counted
-  matches-data lim n t le = ap (λ (r : Found). leb t n && counted (a ++ b) n r) (scanned-data lim le) ∙ ap (λ (x : Bool). leb t n && x) (same (scanned_directory lim a) refl)
+  matches-data lim n t le = ap (λ (r : Option Scan). leb t n && counted (a ++ b) n r) (scanned-data lim le) ∙ ap (λ (x : Bool). leb t n && x) (same (scanned_directory lim a) refl)
     where
-      same : (r : Found) → r ≡ scanned_directory lim a → counted (a ++ b) n r ≡ counted a n r
-      same Nothing q = refl
-      same (Directory d) q =
-          let h : d.start ≤ length a + 1 = (directory-start lim a (Directory d) d q refl).1 in
+      same : (r : Option Scan) → r ≡ scanned_directory lim a → counted (a ++ b) n r ≡ counted a n r
+      same None q = refl
+      same (Some d) q =
+          let h : d.start ≤ length a + 1 = (directory-start lim a (Some d) d q refl).1 in
           let x : counted_back (a ++ b) d.start n 6 ≡ counted_back a d.start n 6 = back-data d.start n 6 h (omega arith) in
           let y : counted_back (a ++ b) d.start n 4 ≡ counted_back a d.start n 4 = back-data d.start n 4 h (omega arith) in
           ap (λ (v : Bool). v || counted_back (a ++ b) d.start n 4) x ∙ ap (λ (v : Bool). counted_back a d.start n 6 || v) y

@@ -1,5 +1,5 @@
 -- Laws of the row-count test. Assumes nothing.
-use Rattle.std.proofs.Common.{◌≡◌, ℕ, zero, suc, ◌+◌, ◌-◌, ◌<◌, ◌≤◌, Bool, true, false, ◌&&◌, ◌||◌, eqb, ltb, leb, List, length, take, drop, sym, refl, ap, ◌∙◌, ⊎_elim, le_of_suc-le-suc, not-suc-le-zero, eq-or-lt_of_le, add-one, arith, length-drop, length-take-le, get_or-drop, get_or-take, eq-eqb, ne_eqb, le-leb, leb-false, leb-true}
+use Rattle.std.proofs.Common.{Option, Some, None, ◌≡◌, ℕ, zero, suc, ◌+◌, ◌-◌, ◌<◌, ◌≤◌, min, Bool, true, false, ◌&&◌, ◌||◌, eqb, ltb, leb, List, length, take, drop, sym, refl, ap, ◌∙◌, ⊎_elim, le_of_suc-le-suc, not-suc-le-zero, eq-or-lt_of_le, add-one, arith, length-drop, length-take-le, get_or-drop, get_or-take, eq-eqb, ne_eqb, le-leb, leb-false, leb-true}
 use borrow.Author.Tests.{lt-leb}
 use Rattle.lists.proofs.Booleans.{or-no-left, or-no-right}
 use Rattle.lists.specs.Cases.{pick}
@@ -9,9 +9,7 @@ use Rattle.answers.specs.Settings.{limit_fits}
 use Rattle.slots.specs.Slots.{is_offset, array_start_of, scan_from, stronger, best_scan, directory_from, scanned_directory, counted_back, counted, row_count_matches, page_matches}
 use Rattle.slots.specs.Pairs.{has_pair}
 use Rattle.slots.specs.declared.scans.Scan.{Scan}
-use Rattle.slots.specs.declared.scans.Found.{Found}
-use Rattle.slots.specs.declared.scans.Found.TheVariants.{Directory, Nothing}
-use Rattle.slots.proofs.Limits.{scanned-past}
+use Rattle.slots.proofs.Limits.{scanned-past, scanned_min}
 
 -- a directory starts at most one past the limit, and one past the end of the bytes
 start-bound : (lim : ℕ) (p : List ℕ) (s : ℕ) → array_start_of lim p s ≤ s + 2
@@ -38,19 +36,19 @@ best-start lim p (suc n) =
     let k : array_start_of lim p n ≤ n + 2 = start-bound lim p n in
     stronger-start (best_scan lim p n) (scan_from lim p n) (suc n + 1) (omega arith) (omega arith)
 
-start_of : Found → ℕ
-start_of Nothing = 0
-start_of (Directory d) = d.start
+start_of : Option Scan → ℕ
+start_of None = 0
+start_of (Some d) = d.start
 
 scanned-start : (lim : ℕ) (p : List ℕ) → start_of (scanned_directory lim p) ≤ lim + 1
 unfolding scanned_directory directory_from start_of
 scanned-start lim p = go (leb 4 (best_scan lim p lim).live) (best-start lim p lim)
   where
-    go : (t : Bool) → (best_scan lim p lim).start ≤ lim + 1 → start_of (pick t (Directory (best_scan lim p lim)) Nothing) ≤ lim + 1
+    go : (t : Bool) → (best_scan lim p lim).start ≤ lim + 1 → start_of (pick t (Some (best_scan lim p lim)) None) ≤ lim + 1
     go true h = h
     go false h = omega arith
 
-module _ (lim : ℕ) (p : List ℕ) (r : Found) (d : Scan) (e : r ≡ scanned_directory lim p) (q : r ≡ Directory d) where
+module _ (lim : ℕ) (p : List ℕ) (r : Option Scan) (d : Scan) (e : r ≡ scanned_directory lim p) (q : r ≡ Some d) where
   pub directory-start : (d.start ≤ lim + 1) × (d.start ≤ length p + 1)
   unfolding start_of
   directory-start = (rw (← ap start_of (sym e ∙ q)) (scanned-start lim p), go (leb (length p) lim) refl)
@@ -112,12 +110,12 @@ module _ (lim : ℕ) (p : List ℕ) (n t : ℕ) where
   unfolding row_count_matches
   few-rows h = rw (lt-leb t n h) refl
 
-  module _ (h : t ≤ n) (r : Found) (e : r ≡ scanned_directory lim p) where
-    pub no-directory : r ≡ Nothing → false ≡ row_count_matches lim p n t
+  module _ (h : t ≤ n) (r : Option Scan) (e : r ≡ scanned_directory lim p) where
+    pub no-directory : r ≡ None → false ≡ row_count_matches lim p n t
     unfolding row_count_matches counted
     no-directory q = rw (← e, q, le-leb t n h) refl
 
-    module _ (d : Scan) (q : r ≡ Directory d) where
+    module _ (d : Scan) (q : r ≡ Some d) where
       either-back : row_count_matches lim p n t ≡ (counted_back p d.start n 6 || counted_back p d.start n 4)
       unfolding row_count_matches counted
       either-back = rw (← e, q, le-leb t n h) refl
@@ -127,6 +125,12 @@ module _ (lim : ℕ) (p : List ℕ) (n t : ℕ) where
 
       pub four-back : (x : Bool) → counted_back p d.start n 6 ≡ false → x ≡ counted_back p d.start n 4 → x ≡ row_count_matches lim p n t
       four-back x b f = rw (either-back, b) f
+
+-- a limit past the bytes is their end
+pub matches-min : (lim bv : ℕ) (xs p : List ℕ) (k n t : ℕ) (r : Bool) → p ≡ plain_of bv xs → k ≡ min lim (length xs) → r ≡ row_count_matches k p n t → r ≡ row_count_matches lim (plain_of bv xs) n t
+unfolding row_count_matches
+matches-min lim bv xs p k n t r e m q =
+    q ∙ ap (λ (l : List ℕ). row_count_matches k l n t) e ∙ ap (λ (d : Option Scan). leb t n && counted (plain_of bv xs) n d) (scanned_min lim bv xs k _ m refl)
 
 -- the test of a whole page
 module _ (lim : ℕ) (p : List ℕ) (t : ℕ) where

@@ -1,12 +1,11 @@
 -- Laws of the scan: where its array starts, which of two is better, and the best of all starts. Assumes nothing.
-use Rattle.std.proofs.Common.{◌≡◌, ℕ, zero, suc, ◌+◌, ◌-◌, ◌<◌, ◌≤◌, Bool, true, false, eqb, ltb, ◌⊎◌, List, sym, refl, ap, ◌∙◌, inl, inr, ⊎_elim, add-zero, add-one, arith, ltb-false, ltb-true, le-ltb, lt-ltb, eq-eqb, ne_eqb, eqb-true, le-leb}
+use Rattle.std.proofs.Common.{Some, None, ◌≡◌, ℕ, zero, suc, ◌+◌, ◌-◌, ◌<◌, ◌≤◌, Bool, true, false, eqb, ltb, ◌⊎◌, List, sym, refl, ap, ◌∙◌, inl, inr, ⊎_elim, add-zero, add-one, arith, ltb-false, ltb-true, le-ltb, lt-ltb, eq-eqb, ne_eqb, eqb-true, le-leb}
 use mathlib.Core.Bool.{and-false}
 use borrow.Author.Tests.{lt-leb, eqb-false}
 use Rattle.lists.specs.Bytes.{pair_at}
 use Rattle.slots.specs.Slots.{is_offset, array_start_of, scan_from, stronger, no_scan, best_scan, directory_from, scanned_directory}
 use Rattle.slots.specs.Best.{More, Not-more}
 use Rattle.slots.specs.declared.scans.Scan.{Scan}
-use Rattle.slots.specs.declared.scans.Found.TheVariants.{Directory, Nothing}
 
 -- where the array of a scan starts, by the tests in their order
 module _ (lim : ℕ) (p : List ℕ) (s : ℕ) where
@@ -114,7 +113,7 @@ directory-from : (b : Scan) → directory_from (stronger no_scan b) ≡ director
 unfolding directory_from
 directory-from b = go (decide no_scan b)
   where
-    small : (x : Scan) → x.live < 4 → directory_from x ≡ Nothing
+    small : (x : Scan) → x.live < 4 → directory_from x ≡ None
     small x l = rw (lt-leb 4 x.live l) refl
 
     go : More no_scan b ⊎ Not-more no_scan b → directory_from (stronger no_scan b) ≡ directory_from b
@@ -142,10 +141,10 @@ from_start lim p b e =
 
 -- four live slots or none
 module _ (b : Scan) where
-  pub few-live : b.live < 4 → Nothing ≡ directory_from b
+  pub few-live : b.live < 4 → None ≡ directory_from b
   unfolding directory_from
   few-live h = rw (lt-leb 4 b.live h) refl
 
-  pub four-live : 4 ≤ b.live → Directory b ≡ directory_from b
+  pub four-live : 4 ≤ b.live → Some b ≡ directory_from b
   unfolding directory_from
   four-live h = rw (le-leb 4 b.live h) refl

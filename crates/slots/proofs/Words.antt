@@ -4,9 +4,8 @@ use mathlib.Core.Bool.{and-false}
 use native.Mathlib.Numerals.{add-two}
 use borrow.Author.Tests.{lt-leb}
 use Rattle.lists.specs.Cases.{pick}
-use Rattle.lists.specs.Bytes.{plain_of, pair_at}
+use Rattle.lists.specs.Bytes.{pair_at}
 use Rattle.lists.proofs.Booleans.{and_left, and_right, and_yes, and-no-left}
-use Rattle.lists.proofs.Plain.{plain-length}
 use Rattle.slots.specs.Slots.{is_offset, words, words_from, falling, opening, slots_at}
 
 module _ (lim : ℕ) (p : List ℕ) (at : ℕ) (le : lim ≤ length p) where
@@ -89,10 +88,6 @@ falling-other prev w ws n o = rw (ne_eqb w 0 n, o) refl
 pub falling-above : (prev w : ℕ) (ws : List ℕ) → (w ≡ 0 → ⊥) → prev ≤ w → falling prev (w ∷ ws) ≡ []
 unfolding falling
 falling-above prev w ws n l = rw (ne_eqb w 0 n, le-ltb w prev l, and-false) refl
-
--- a limit within the bytes is within the plain ones
-pub fits : (lim bv : ℕ) (xs : List ℕ) → lim ≤ length xs → lim ≤ length (plain_of bv xs)
-fits lim bv xs h = rw plain-length h
 
 -- a run has no more slots than the limit has room for
 falling-few : (prev : ℕ) (ws : List ℕ) → length (falling prev ws) ≤ length ws

@@ -1,9 +1,8 @@
 -- What the scan's directory is, of all starts: document 01, "Best: most live, then most slots, then earliest start". Its proof is in proofs, under
 -- the same name. Assumes nothing.
-use Rattle.std.specs.Prelude.{◌≡◌, ℕ, ◌<◌, ◌≤◌, ◌⊎◌, List}
+use Rattle.std.specs.Prelude.{Some, None, ◌≡◌, ℕ, ◌<◌, ◌≤◌, ◌⊎◌, List}
 use Rattle.slots.specs.Slots.{scan_from, scanned_directory}
 use Rattle.slots.specs.declared.scans.Scan.{Scan}
-use Rattle.slots.specs.declared.scans.Found.TheVariants.{Directory, Nothing}
 
 -- c has more than b: more live slots, or as many and more slots
 abbrev pub More : Scan → Scan → Type 0
@@ -24,5 +23,5 @@ pub record Best (lim : ℕ) (plain : List ℕ) (n : ℕ) (d : Scan) : Type 0 whe
 
 -- "fewer than 4 live gives nothing"
 pub record ScanFinds : Type 0 where
-  pub best : (lim : ℕ) (plain : List ℕ) (d : Scan) → scanned_directory lim plain ≡ Directory d → Best lim plain lim d × (4 ≤ d.live)
-  pub nothing : (lim : ℕ) (plain : List ℕ) → scanned_directory lim plain ≡ Nothing → (s : ℕ) → s < lim → (scan_from lim plain s).live < 4
+  pub best : (lim : ℕ) (plain : List ℕ) (d : Scan) → scanned_directory lim plain ≡ Some d → Best lim plain lim d × (4 ≤ d.live)
+  pub nothing : (lim : ℕ) (plain : List ℕ) → scanned_directory lim plain ≡ None → (s : ℕ) → s < lim → (scan_from lim plain s).live < 4

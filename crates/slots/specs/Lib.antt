@@ -6,3 +6,4 @@ pub mod Pairs
 pub mod Looks
 -- private
 pub mod Sweep
+pub mod Plain

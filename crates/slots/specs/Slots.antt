@@ -1,16 +1,18 @@
 -- Document 01, "Slots and rows": slot values, the scan and the row-count test, on the bytes `plain` of a page. `lim` is the search limit, where
 -- document 01 has 0x300: starts go from 0 to lim - 1. The scan and the row-count test take any number. Assumes nothing.
-use Rattle.std.specs.Prelude.{ℕ, zero, suc, ◌+◌, ◌-◌, ◌*◌, Bool, false, ◌&&◌, ◌||◌, List, [], ◌∷◌, length, take, drop, ◌==◌, nat_le, nat_lt}
+use Rattle.std.specs.Prelude.{Option, Some, None, ℕ, zero, suc, ◌+◌, ◌-◌, ◌*◌, Bool, false, ◌&&◌, ◌||◌, List, [], ◌∷◌, length, take, drop, ◌==◌, nat_le, nat_lt}
 use Rattle.lists.specs.Cases.{pick}
 use Rattle.lists.specs.Bytes.{byte_at, pair_at}
 use Rattle.answers.specs.Settings.{limit_fits}
 use Rattle.slots.specs.declared.scans.Scan.{Scan}
-use Rattle.slots.specs.declared.scans.Found.{Found}
-use Rattle.slots.specs.declared.scans.Found.TheVariants.{Directory, Nothing}
 
 -- "a slot value is an offset if 0x20 <= value < 0xFF0": slotted.rs's SLOT_OFFSET_MIN, and where the trailer starts
 unfoldable pub is_offset : ℕ → Bool
 is_offset v = nat_le 0x20 v && nat_lt v 0xFF0
+
+-- the value of a slot's two bytes
+abbrev pub slot_value : List ℕ → ℕ
+slot_value pair = pair_at pair 0
 
 -- the pairs of a list of bytes, one after the other; and those from a position on that lie whole before an end
 unfoldable pub words : List ℕ → List ℕ
@@ -75,10 +77,10 @@ best_scan lim plain zero = no_scan
 best_scan lim plain (suc n) = stronger (best_scan lim plain n) (scan_from lim plain n)
 
 -- "fewer than 4 live gives nothing": falling runs of that length are rare in random bytes, shorter ones are noise
-unfoldable pub directory_from : Scan → Found
-directory_from b = pick (nat_le 4 b.live) (Directory b) Nothing
+unfoldable pub directory_from : Scan → Option Scan
+directory_from b = pick (nat_le 4 b.live) (Some b) None
 
-unfoldable pub scanned_directory : ℕ → List ℕ → Found
+unfoldable pub scanned_directory : ℕ → List ℕ → Option Scan
 scanned_directory lim plain = directory_from (best_scan lim plain lim)
 
 -- "array start >= back + 2 and the two bytes at start - back are the count and 0"
@@ -86,9 +88,9 @@ unfoldable pub counted_back : List ℕ → ℕ → ℕ → ℕ → Bool
 counted_back plain start n back = nat_le (back + 2) start && (byte_at plain (start - back) == n && byte_at plain (start - back + 1) == 0)
 
 -- "a page without a scanned directory ends the row-count test at once"; "for back 6 or 4"
-unfoldable pub counted : List ℕ → ℕ → Found → Bool
-counted plain n Nothing = false
-counted plain n (Directory d) = counted_back plain d.start n 6 || counted_back plain d.start n 4
+unfoldable pub counted : List ℕ → ℕ → Option Scan → Bool
+counted plain n None = false
+counted plain n (Some d) = counted_back plain d.start n 6 || counted_back plain d.start n 4
 
 -- the row-count test of a row count n: "row count >= T and .."
 unfoldable pub row_count_matches : ℕ → List ℕ → ℕ → ℕ → Bool

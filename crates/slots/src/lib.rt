@@ -13,5 +13,5 @@ mod values;
 
 pub use counts::{page_row_count_matches, trailer_row_count_matches};
 pub use pairs::has_count;
-pub use scans::{Found, Scan, scanned_directory};
-pub use values::{SLOT_OFFSET_MIN, is_offset};
+pub use scans::{Scan, scanned_directory};
+pub use values::{SLOT_OFFSET_MIN, is_offset, pair_at, pair_of, pairs_in};

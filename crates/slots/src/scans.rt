@@ -2,10 +2,11 @@
 ghost use Rattle.std.specs.Prelude.{◌≡◌, ◌+◌, ◌<◌, ◌≤◌, length, nat_lt};
 ghost use Rattle.lists.specs.Cases.{pick};
 ghost use Rattle.lists.specs.Bytes.{plain_of};
+ghost use Rattle.slots.specs.Plain.{text};
 ghost use Rattle.slots.specs.Slots.{words_from, stronger, directory_from, scanned_directory};
 ghost use Rattle.slots.specs.Sweep.{no_tail, extended, tail_of, tail_scan, stronger_kept};
 
-use crate::values::{is_offset, pair_at};
+use crate::values::{Plain, is_offset};
 
 // What a scan finds: where its array starts, its slots without trailing zeros, and how many of them are live. It ends at start + 2 * slots.
 #[derive(Clone, Copy)]
@@ -13,12 +14,6 @@ pub struct Scan {
     pub start: usize,
     pub slots: usize,
     pub live: usize,
-}
-
-#[derive(Clone, Copy)]
-pub enum Found {
-    Directory(Scan),
-    Nothing,
 }
 
 // What is known of the pairs from a position on: the first that is not zero, the zero pairs before it, and the slots and live slots of
@@ -32,52 +27,57 @@ pub(crate) struct Tail {
 }
 
 // The best directory of all starts below the limit, if it has four live slots.
-pub fn scanned_directory(bytes: &[u8], bv: u8, limit: usize) -> Found
+pub fn scanned_directory(bytes: &[u8], bv: u8, limit: usize) -> Option<Scan>
     ensures { result ≡ scanned_directory limit (plain_of bv bytes.now) }
 {
-    let length = bytes.len();
-    if length < limit {
-        return sweep(bytes, bv, length);
-    }
-    sweep(bytes, bv, limit)
+    Plain::new(bytes, bv, limit).sweep()
 }
 
-// Two positions a turn: the tails of even and of odd positions stay in their own places. The last position has no pair.
-fn sweep(bytes: &[u8], bv: u8, limit: usize) -> Found
-    requires { limit ≤ length bytes.now }
-    ensures { result ≡ scanned_directory limit (plain_of bv bytes.now) }
-{
-    let mut near = no_tail();
-    let mut far = no_tail();
-    let mut best = Scan {
-        start: 0,
-        slots: 0,
-        live: 0,
-    };
-    if limit == 0 {
-        return directory_of(best);
+impl Plain<'_> {
+    // Two positions a turn: the tails of even and of odd positions stay in their own places. The last position has no pair. By index: in
+    // pairs from the far end, which no adapter gives.
+    pub(crate) fn sweep(&self) -> Option<Scan>
+        ensures { result ≡ scanned_directory self.now.end (text self.now) }
+    {
+        let mut near = no_tail();
+        let mut far = no_tail();
+        let mut best = Scan {
+            start: 0,
+            slots: 0,
+            live: 0,
+        };
+        if self.end == 0 {
+            return directory_of(best);
+        }
+        let mut s = self.end - 1;
+        while 1 < s {
+            far = self.tail_at(s - 1, far);
+            best = kept(s - 1, far, best);
+            near = self.tail_at(s - 2, near);
+            best = kept(s - 2, near, best);
+            s -= 2;
+        }
+        if s == 1 {
+            return directory_of(kept(0, self.tail_at(0, far), best));
+        }
+        directory_of(best)
     }
-    let mut s = limit - 1;
-    while 1 < s {
-        far = tail_at(bytes, bv, limit, s - 1, far);
-        best = kept(s - 1, far, best);
-        near = tail_at(bytes, bv, limit, s - 2, near);
-        best = kept(s - 2, near, best);
-        s -= 2;
+
+    // The tail at s from the tail two bytes on.
+    fn tail_at(&self, s: usize, next: Tail) -> Tail
+        requires s_in_bounds { s + 1 < self.now.end }
+        requires next_value { next ≡ tail_of (words_from self.now.end (text self.now) (s + 2)) }
+        ensures { result ≡ tail_of (words_from self.now.end (text self.now) s) }
+    {
+        extend(self.pair_at(s), next)
     }
-    if s == 1 {
-        return directory_of(kept(0, tail_at(bytes, bv, limit, 0, far), best));
-    }
-    directory_of(best)
 }
 
-fn directory_of(best: Scan) -> Found
+#[tactic(auto, unfolding(crate::specs::Slots::directory_from))]
+fn directory_of(best: Scan) -> Option<Scan>
     ensures { result ≡ directory_from best }
 {
-    if best.live < 4 {
-        return Found::Nothing;
-    }
-    Found::Directory(best)
+    (4 <= best.live).then_some(best)
 }
 
 fn no_tail() -> Tail
@@ -91,31 +91,19 @@ fn no_tail() -> Tail
     }
 }
 
-// The tail at s from the tail two bytes on.
-fn tail_at(bytes: &[u8], bv: u8, limit: usize, s: usize, next: Tail) -> Tail
-    requires limit_in_bounds { (limit ≤ length bytes.now) × (s + 1 < limit) }
-    requires next_value { next ≡ tail_of (words_from limit (plain_of bv bytes.now) (s + 2)) }
-    ensures { result ≡ tail_of (words_from limit (plain_of bv bytes.now) s) }
-{
-    extend(pair_at(bytes, bv, s), next)
-}
-
 // The tail with one more pair before it.
 fn extend(w: usize, t: Tail) -> Tail
     requires { (t.gap + t.slots < 9223372036854775808) × (t.live < 9223372036854775808) }
     ensures { result ≡ extended w t }
 {
-    let value = t.value;
-    let gap = t.gap;
-    let slots = t.slots;
-    let live = t.live;
+    let Tail {
+        value,
+        gap,
+        slots,
+        live,
+    } = t;
     if w == 0 {
-        return Tail {
-            value,
-            gap: gap + 1,
-            slots,
-            live,
-        };
+        return Tail { gap: gap + 1, ..t };
     }
     if !is_offset(w) {
         return no_tail();
@@ -142,9 +130,12 @@ fn kept(s: usize, t: Tail, best: Scan) -> Scan
     requires { s < 9223372036854775808 }
     ensures { result ≡ stronger_kept (tail_scan s t) best }
 {
-    let gap = t.gap;
-    let slots = t.slots;
-    let live = t.live;
+    let Tail {
+        gap,
+        slots,
+        live,
+        ..
+    } = t;
     if live < 4 {
         return best;
     }
@@ -160,14 +151,13 @@ fn kept(s: usize, t: Tail, best: Scan) -> Scan
 }
 
 // The better of two scans, the earlier one, b, where they are as good.
+#[tactic(auto, unfolding(crate::specs::Slots::stronger))]
 fn better(b: Scan, c: Scan) -> Scan
     ensures { result ≡ stronger b c }
 {
-    if b.live < c.live {
-        return c;
+    if b.live < c.live || b.live == c.live && b.slots < c.slots {
+        c
+    } else {
+        b
     }
-    if b.live != c.live {
-        return b;
-    }
-    if b.slots < c.slots { c } else { b }
 }

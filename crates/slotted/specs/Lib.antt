@@ -1,3 +1,3 @@
--- What the parse says in a small value, and its answer with tables.
+-- What the parse says in a small value, and with tables.
 pub mod Locations
 pub mod Parses

@@ -9,4 +9,4 @@ mod directories;
 mod locations;
 
 pub use directories::{Parsed, SlotDirectory, parse, parse_answer};
-pub use locations::{Given, Located, locate};
+pub use locations::{Located, locate};

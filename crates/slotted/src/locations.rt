@@ -1,101 +1,53 @@
-// What the parse says in a small value, with no table: its answer, where the directory is, and the warnings.
-ghost use Rattle.std.specs.Prelude.{◌≡◌, [], ◌∷◌, ◌<◌};
-ghost use Rattle.lists.specs.Cases.{flag};
+// What the parse says in a small value, with no table of slots: where the directory is, and the warnings.
+ghost use Rattle.std.specs.Prelude.{◌≡◌, ◌≤◌, IfOk, IfSome};
 ghost use Rattle.answers.specs.Settings.{directory};
-ghost use Rattle.slotted.specs.Locations.{is_given, noted_of, in_order, given_of, located_of};
+ghost use Rattle.directory.specs.Directory.{Sound};
+ghost use Rattle.slotted.specs.Locations.{warned, decided_warnings, located_of};
 
-use answers::{Answer, Options, Warning, WarningKind};
-use directory::{Listed, decide};
+use answers::{Options, Refusal, Table, Warning, WarningKind};
+use directory::{Decided, Listed, decide_page};
 
-// The warnings that are given, in their order: the first `len` of the three. The others are blank.
-#[derive(Clone, Copy)]
-pub struct Given {
-    pub len: usize,
-    pub first: Warning,
-    pub second: Warning,
-    pub third: Warning,
-}
-
-// All that a parse says but the slots, which are in the page from `listed.start` on. A refusal has neither a directory nor warnings.
+// All that a parse says of a page that it accepts but the slots, which are in the page from the directory's start on.
 #[derive(Clone, Copy)]
 pub struct Located {
-    pub answer: Answer,
-    pub listed: Listed,
-    pub warnings: Given,
+    pub listed: Option<Listed>,
+    pub warnings: Table<Warning, 3>,
 }
 
 // Where the slot directory of a plain page is.
-pub fn locate(number: u64, plain: &[u8], options: Options) -> Located
-    ensures { result ≡ located_of options.search_limit number plain.now (directory options) }
+#[tactic(auto, unfolding(crate::specs::Locations::located_of))]
+pub fn locate(number: u64, plain: &[u8], options: Options) -> Result<Located, Refusal>
+    ensures located { result ≡ located_of options.search_limit number plain.now (directory options) }
+    ensures sound { IfOk result (λ l. IfSome l.listed (λ d. Sound plain.now d.start d.count × (d.count ≤ 1024))) }
 {
-    let d = decide(plain, options.search_limit, options.directory());
-    let verdict = d.verdict;
-    let listed = d.listed;
-    let first = d.first;
-    let second = d.second;
-    let third = d.third;
-    let answer = verdict.answer(number);
-    let warnings = given_first(number, first, second, third);
-    Located {
-        answer,
-        listed,
-        warnings,
-    }
+    let d = decide_page(number, plain, options)?;
+    Ok(Located {
+        listed: d.listed,
+        warnings: warnings(number, d),
+    })
 }
 
-// Those that are given, before those that are not.
-fn given_first(number: u64, a: WarningKind, b: WarningKind, c: WarningKind) -> Given
-    ensures { result ≡ given_of number (a ∷ b ∷ c ∷ []) }
+// The warnings of a page that is accepted, in their order, in a table of any size.
+pub(crate) fn warnings<const N: usize>(number: u64, d: Decided) -> Table<Warning, N>
+    ensures { result ≡ decided_warnings number d }
 {
-    if is_given(a) {
-        if is_given(b) {
-            return in_order(number, a, b, c);
-        }
-        return in_order(number, a, c, WarningKind::Nothing);
-    }
-    if is_given(b) {
-        return in_order(number, b, c, WarningKind::Nothing);
-    }
-    in_order(number, c, WarningKind::Nothing, WarningKind::Nothing)
+    warned(
+        warned(warned(Table::none(), number, d.first), number, d.second),
+        number,
+        d.third,
+    )
 }
 
-// Three of which those that are not given come last.
-fn in_order(number: u64, a: WarningKind, b: WarningKind, c: WarningKind) -> Given
-    ensures { result ≡ in_order number a b c }
+// One warning of the page more, where it is given.
+fn warned<const N: usize>(
+    table: Table<Warning, N>,
+    number: u64,
+    kind: Option<WarningKind>,
+) -> Table<Warning, N>
+    ensures { result ≡ warned table.entry number kind }
 {
-    let len = given_count(a) + given_count(b) + given_count(c);
-    let first = noted(number, a);
-    let second = noted(number, b);
-    let third = noted(number, c);
-    Given {
-        len,
-        first,
-        second,
-        third,
+    match kind {
+        Some(kind) => table.with(Warning { page: number, kind }),
+        None => table,
     }
-}
-
-// A warning of the page, or a blank one.
-fn noted(number: u64, kind: WarningKind) -> Warning
-    ensures { result ≡ noted_of number kind }
-{
-    if is_given(kind) {
-        return Warning { page: number, kind };
-    }
-    Warning {
-        page: 0,
-        kind: WarningKind::Nothing,
-    }
-}
-
-fn given_count(kind: WarningKind) -> usize
-    ensures { (result ≡ flag (is_given kind)) × (result < 2) }
-{
-    if is_given(kind) { 1 } else { 0 }
-}
-
-fn is_given(kind: WarningKind) -> bool
-    ensures { result ≡ is_given kind }
-{
-    kind.number() != 0
 }

@@ -1,29 +1,29 @@
 -- DEMAND 3, on replacement: the kept summary is that of the final page, and on any summary one sector alone changes. Assumes nothing.
 use Prim.Native.Nat.{ℕ, ◌+◌, ◌-◌, ◌*◌, ◌≤◌, ◌<◌}
-use mathlib.Core.Path.{◌≡◌, refl, sym, ap, ◌∙◌, subst}
-use mathlib.Core.Bool.{false}
+use mathlib.Core.Path.{◌≡◌, sym, ap, ◌∙◌, subst}
 use mathlib.Core.List.{List, [], ◌∷◌}
 use mathlib.Core.Logic.{◌⊎◌, inl, inr, ⊎_elim}
 use native.Mathlib.Decide.{ℕ_discrete, dec_lt}
 use native.Mathlib.Omega.{arith}
 use lib.ListN.{length, get_or, set, drop, length-set}
 use lib.Seq.{get_or-set_same, get_or-set_other, ext_get_or, take_all, length-take-le}
+use Rattle.std.specs.Prelude.{Some, None, Result}
+use Rattle.std.specs.Result.{result_unwrap_or}
 use Rattle.lists.specs.Pieces.{over}
 use Rattle.lists.proofs.Over.{over-length, over-after}
 use Rattle.lists.proofs.Each.{each-length, each_at}
 use Rattle.lists.proofs.Joined.{joined-ext}
-use Rattle.answers.specs.Answers.{is_accepted}
-use Rattle.answers.specs.declared.kinds.Answer.{Answer}
-use Rattle.answers.specs.declared.kinds.Answer.TheVariants.{Accepted, WrongPageLength, WrongBufferLength, BadReplacement}
+use Rattle.answers.specs.Answers.{Answer}
+use Rattle.answers.specs.declared.kinds.Refusal.{Refusal}
+use Rattle.answers.specs.declared.kinds.Refusal.TheVariants.{WrongPageLength, WrongBufferLength, BadReplacement}
 use Rattle.sector.specs.Byte.{offset_of}
 use Rattle.sector.specs.Fit.{fit_of, sector_of}
-use Rattle.sector.specs.Scan.{blank_fit}
+use Rattle.sector.specs.Scan.{blank_fit, blank_fits}
 use Rattle.sector.specs.declared.fits.Fit.{Fit}
 use Rattle.sector.proofs.Shifts.{sector-length}
 use Rattle.summary.specs.Page.{sector_end, data_of, part, fit_at, bytes_at, fits_of, bytes_of, checked, page_scan_of, scanned}
 use Rattle.summary.specs.Replace.{sector_answer, replace_answer, replaced, stored_after, shifted_after}
 use Rattle.summary.specs.State.{State, Replacement, at_scan, after, after_all, Fresh, Whole, Taken, OneSector, sector_at}
-use Rattle.summary.specs.declared.pages.PageScan.{PageScan}
 use Rattle.summary.proofs.Parts.{part-here, part-other, sector-here, sector-other, sector-data, sector-part, sectors-whole, trailer-of, page-room}
 use Rattle.summary.proofs.Sectors.{summary-length, summary-part}
 use Rattle.summary.proofs.Outcomes.{checked-page, checked-room, checked-good, sector-above, sector-resized, sector-taken, scan-answer, scan-buffer, replace-answer, replace-stored, replace-shifted}
@@ -45,17 +45,17 @@ module _ (number : ℕ) (t : State) (r : Replacement) where
   pub taken-after : Taken t r → after number t r ≡ put number t r
   unfolding after
   taken-after k =
-      let w : Accepted ≡ answer_to = sector-taken r.sector r.new k.within k.sized ∙ checked-good _ _ (sector_answer r.sector r.new) k.whole k.buffer in
+      let w : None ≡ answer_to = sector-taken r.sector r.new k.within k.sized ∙ checked-good _ _ (sector_answer r.sector r.new) k.whole k.buffer in
       sym
       (λ i. record {
-        stored = replace-stored number r.sector r.new t.stored t.shifted t.fits Accepted w i;
-        shifted = replace-shifted number r.sector r.new t.stored t.shifted t.fits Accepted w i;
-        fits = (replace-answer number r.sector r.new t.stored t.shifted t.fits Accepted w i).fits;
+        stored = replace-stored number r.sector r.new t.stored t.shifted t.fits None w i;
+        shifted = replace-shifted number r.sector r.new t.stored t.shifted t.fits None w i;
+        fits = result_unwrap_or (replace-answer number r.sector r.new t.stored t.shifted t.fits None w i) t.fits;
       })
 
-  refused : (a : Answer) → is_accepted a ≡ false → a ≡ answer_to → after number t r ≡ t
+  refused : (x : Refusal) → Some x ≡ answer_to → after number t r ≡ t
   unfolding after stored_after shifted_after replaced
-  refused a e w = let q : is_accepted answer_to ≡ false = ap is_accepted (sym w) ∙ e in rw q
+  refused x w = rw (← w)
 
   -- a replacement is taken, or changes nothing
   pub taken-or-same : Taken t r ⊎ (after number t r ≡ t)
@@ -66,19 +66,19 @@ module _ (number : ℕ) (t : State) (r : Replacement) where
 
       size : length t.stored ≡ 4096 → length t.shifted ≡ 4080 → s < 8 → Dec (length r.new ≡ 512) → Taken t r ⊎ (after number t r ≡ t)
       size a b h (yes e) = inl (record { whole = a; buffer = b; within = h; sized = e })
-      size a b h (no ne) = inr (refused (BadReplacement s) refl (sector-resized s r.new h ne ∙ checked-good _ _ (sector_answer s r.new) a b))
+      size a b h (no ne) = inr (refused (BadReplacement s) (sector-resized s r.new h ne ∙ checked-good _ _ (sector_answer s r.new) a b))
 
       within : length t.stored ≡ 4096 → length t.shifted ≡ 4080 → Dec (s < 8) → Taken t r ⊎ (after number t r ≡ t)
       within a b (yes h) = size a b h (ℕ_discrete (length r.new) 512)
-      within a b (no h) = inr (refused (BadReplacement s) refl (sector-above s r.new (omega arith) ∙ checked-good _ _ (sector_answer s r.new) a b))
+      within a b (no h) = inr (refused (BadReplacement s) (sector-above s r.new (omega arith) ∙ checked-good _ _ (sector_answer s r.new) a b))
 
       buffer : length t.stored ≡ 4096 → Dec (length t.shifted ≡ 4080) → Taken t r ⊎ (after number t r ≡ t)
       buffer a (yes b) = within a b (dec_lt s 8)
-      buffer a (no b) = inr (refused (WrongBufferLength (length t.shifted)) refl (checked-room (length t.stored) (length t.shifted) (sector_answer s r.new) a b))
+      buffer a (no b) = inr (refused (WrongBufferLength (length t.shifted)) (checked-room (length t.stored) (length t.shifted) (sector_answer s r.new) a b))
 
       whole : Dec (length t.stored ≡ 4096) → Taken t r ⊎ (after number t r ≡ t)
       whole (yes a) = buffer a (ℕ_discrete (length t.shifted) 4080)
-      whole (no a) = inr (refused (WrongPageLength (length t.stored)) refl (checked-page (length t.stored) (length t.shifted) (sector_answer s r.new) a))
+      whole (no a) = inr (refused (WrongPageLength (length t.stored)) (checked-page (length t.stored) (length t.shifted) (sector_answer s r.new) a))
 
   -- ON ANY SUMMARY, also another page's: one sector alone changes, and it becomes that of the new bytes
   module _ (k : Taken t r) (h : length t.fits ≡ 8) where
@@ -204,14 +204,14 @@ fresh-after-all number (r ∷ rs) t f = fresh-after-all number rs (after number 
 
 -- a scan makes a fresh summary, and what is fresh is what a scan of its page makes
 module _ (number : ℕ) (stored buffer : List ℕ) (hp : length stored ≡ 4096) (hb : length buffer ≡ 4080) where
-  accepts : Accepted ≡ checked (length stored) (length buffer) Accepted
-  accepts = checked-good (length stored) (length buffer) Accepted hp hb
+  accepts : None ≡ checked (length stored) (length buffer) None
+  accepts = checked-good (length stored) (length buffer) None hp hb
 
   scan-bytes : scanned number stored buffer ≡ bytes_of number stored
-  scan-bytes = sym (scan-buffer number stored buffer Accepted accepts)
+  scan-bytes = sym (scan-buffer number stored buffer None accepts)
 
-  scan-fits : (page_scan_of number stored (length buffer)).fits ≡ fits_of number stored
-  scan-fits = sym (ap (λ (r : PageScan). r.fits) (scan-answer number stored buffer Accepted accepts))
+  scan-fits : result_unwrap_or (page_scan_of number stored (length buffer)) blank_fits ≡ fits_of number stored
+  scan-fits = sym (ap (λ (r : Result (List Fit) Refusal). result_unwrap_or r blank_fits) (scan-answer number stored buffer None accepts))
 
   pub fresh-scan : Fresh number (at_scan number stored buffer)
   fresh-scan = record { whole = hp; bytes = scan-bytes; kept = scan-fits }
@@ -219,7 +219,7 @@ module _ (number : ℕ) (stored buffer : List ℕ) (hp : length stored ≡ 4096)
 pub fresh-is : (number : ℕ) (t : State) (buffer : List ℕ) → Fresh number t → length buffer ≡ 4080 → t ≡ at_scan number t.stored buffer
 fresh-is number t buffer f hb =
     let b : t.shifted ≡ scanned number t.stored buffer = f.bytes ∙ sym (scan-bytes number t.stored buffer f.whole hb) in
-    let k : t.fits ≡ (page_scan_of number t.stored (length buffer)).fits = f.kept ∙ sym (scan-fits number t.stored buffer f.whole hb) in
+    let k : t.fits ≡ result_unwrap_or (page_scan_of number t.stored (length buffer)) blank_fits = f.kept ∙ sym (scan-fits number t.stored buffer f.whole hb) in
     λ i. record { stored = t.stored; shifted = b i; fits = k i }
 
 -- AFTER A SCAN AND ANY REPLACEMENTS under one page number, repeats and refused ones included, the kept summary is what a scan of the final page makes

@@ -1,15 +1,13 @@
 -- Document 01, "Summary and replacement": the summary of a page is eight fits and 4,080 shifted bytes. Assumes nothing.
-use Rattle.std.specs.Prelude.{ℕ, ◌+◌, ◌-◌, ◌*◌, min, List, eqb, length, take, drop}
+use Rattle.std.specs.Prelude.{ℕ, ◌+◌, ◌-◌, ◌*◌, min, List, Some, None, Result, Ok, Err, eqb, length, take, drop}
 use Rattle.lists.specs.Cases.{pick}
 use Rattle.lists.specs.Pieces.{each, joined}
-use Rattle.answers.specs.Answers.{is_accepted}
-use Rattle.answers.specs.declared.kinds.Answer.{Answer}
-use Rattle.answers.specs.declared.kinds.Answer.TheVariants.{Accepted, WrongPageLength, WrongBufferLength}
+use Rattle.answers.specs.Answers.{Answer}
+use Rattle.answers.specs.declared.kinds.Refusal.{Refusal}
+use Rattle.answers.specs.declared.kinds.Refusal.TheVariants.{WrongPageLength, WrongBufferLength}
 use Rattle.sector.specs.Byte.{offset_of}
 use Rattle.sector.specs.Fit.{fit_of, sector_of}
-use Rattle.sector.specs.Scan.{blank_fits}
 use Rattle.sector.specs.declared.fits.Fit.{Fit}
-use Rattle.summary.specs.declared.pages.PageScan.{PageScan}
 
 -- sectors 0 to 6 have 512 bytes of data, sector 7 has 496: where the data of sector s end
 abbrev pub sector_end : ℕ → ℕ
@@ -38,18 +36,22 @@ bytes_of number stored = joined (bytes_at number stored) 8
 
 -- checks 1 and 2, for a page of n bytes and a buffer of m; where both pass, the answer a
 abbrev pub checked : ℕ → ℕ → Answer → Answer
-checked n m a = pick (eqb n 4096) (pick (eqb m 4080) a (WrongBufferLength m)) (WrongPageLength n)
+checked n m a = pick (eqb n 4096) (pick (eqb m 4080) a (Some (WrongBufferLength m))) (Some (WrongPageLength n))
 
 -- x where an answer accepts, y where it refuses
 abbrev pub if_accepted : {A : Type 0} → Answer → A → A → A
-if_accepted a x y = pick (is_accepted a) x y
+if_accepted None x y = x
+if_accepted (Some r) x y = y
 
--- a scan's answer and fits, for a buffer of m bytes
-unfoldable pub page_scan_of : ℕ → List ℕ → ℕ → PageScan
-page_scan_of number stored m =
-    let a : Answer = checked (length stored) m Accepted in
-    record { answer = a; fits = if_accepted a (fits_of number stored) blank_fits }
+-- x where an answer accepts, and its refusal where it refuses
+abbrev pub ok_if : {A : Type 0} → Answer → A → Result A Refusal
+ok_if None x = Ok x
+ok_if (Some r) x = Err r
+
+-- what a scan gives, for a buffer of m bytes
+unfoldable pub page_scan_of : ℕ → List ℕ → ℕ → Result (List Fit) Refusal
+page_scan_of number stored m = ok_if (checked (length stored) m None) (fits_of number stored)
 
 -- and what the buffer holds afterwards: a refusal writes nothing
 unfoldable pub scanned : ℕ → List ℕ → List ℕ → List ℕ
-scanned number stored buffer = if_accepted (checked (length stored) (length buffer) Accepted) (bytes_of number stored) buffer
+scanned number stored buffer = if_accepted (checked (length stored) (length buffer) None) (bytes_of number stored) buffer

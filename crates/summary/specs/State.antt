@@ -1,9 +1,10 @@
 -- A stored page beside its summary, and what a list of replacements makes of them. Assumes nothing.
 use Rattle.std.specs.Prelude.{ℕ, ◌*◌, ◌<◌, ◌≡◌, true, List, [], ◌∷◌, map, length, get_or, take, drop}
+use Rattle.std.specs.Result.{result_unwrap_or}
 use Rattle.lists.specs.Counts.{is_in}
 use Rattle.sector.specs.Byte.{offset_of}
 use Rattle.sector.specs.Fit.{fit_of, sector_of}
-use Rattle.sector.specs.Scan.{blank_fit}
+use Rattle.sector.specs.Scan.{blank_fit, blank_fits}
 use Rattle.sector.specs.declared.fits.Fit.{Fit}
 use Rattle.summary.specs.Page.{data_of, part, fits_of, bytes_of, page_scan_of, scanned}
 use Rattle.summary.specs.Replace.{replaced, stored_after, shifted_after}
@@ -17,17 +18,22 @@ pub record Replacement : Type 0 where
   pub sector : ℕ
   pub new : List ℕ
 
--- what `scan_page` makes of a page and a lent buffer
+-- what `scan_page` makes of a page and a lent buffer; where it refuses, eight blanks stand for the fits
 abbrev pub at_scan : ℕ → List ℕ → List ℕ → State
-at_scan number stored buffer = record { stored = stored; shifted = scanned number stored buffer; fits = (page_scan_of number stored (length buffer)).fits }
+at_scan number stored buffer =
+    record {
+      stored = stored;
+      shifted = scanned number stored buffer;
+      fits = result_unwrap_or (page_scan_of number stored (length buffer)) blank_fits;
+    }
 
--- what `replace_sector` makes of a state
+-- what `replace_sector` makes of a state; where it refuses, the fits stay
 unfoldable pub after : ℕ → State → Replacement → State
 after number t r =
     record {
       stored = stored_after r.sector r.new t.stored (length t.shifted);
       shifted = shifted_after number r.sector r.new (length t.stored) t.shifted;
-      fits = (replaced number r.sector r.new (length t.stored) (length t.shifted) t.fits).fits;
+      fits = result_unwrap_or (replaced number r.sector r.new (length t.stored) (length t.shifted) t.fits) t.fits;
     }
 
 -- one after the other

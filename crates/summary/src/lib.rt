@@ -8,5 +8,5 @@ mod pages;
 mod replacing;
 mod rescan;
 
-pub use pages::{PageScan, scan_page, sector_end};
-pub use replacing::{Changed, replace_sector};
+pub use pages::{scan_page, sector_end};
+pub use replacing::replace_sector;

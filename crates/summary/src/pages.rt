@@ -1,42 +1,32 @@
 // The scan of a page.
-ghost use Rattle.std.specs.Prelude.{◌≡◌, length};
-ghost use Rattle.summary.specs.Page.{sector_end, page_scan_of, scanned};
+ghost use Rattle.std.specs.Prelude.{◌≡◌, None, length};
+ghost use Rattle.answers.specs.Answers.{answer_in};
+ghost use Rattle.summary.specs.Page.{sector_end, checked, page_scan_of, scanned};
 
-use answers::Answer;
+use crate::rescan::rescan;
+use answers::Refusal;
 use sector::Fit;
 
-// The answer, and the eight fits; of a refusal, eight blank ones.
-#[derive(Clone, Copy)]
-pub struct PageScan {
-    pub answer: Answer,
-    pub fits: [Fit; 8],
-}
-
 // The fits of a stored page; its shifted bytes go into `shifted`. An all-zero page is scanned like any other; a refusal writes nothing.
-pub fn scan_page(number: u64, stored: &[u8], shifted: &mut [u8]) -> PageScan
+pub fn scan_page(number: u64, stored: &[u8], shifted: &mut [u8]) -> Result<[Fit; 8], Refusal>
     ensures value { result ≡ page_scan_of number stored.now (length shifted.old) }
     ensures shifted_after { shifted.new ≡ scanned number stored.now shifted.old }
 {
-    let blank = Fit::blanks();
-    let n = stored.len();
-    if n != 4096 {
-        return PageScan {
-            answer: Answer::WrongPageLength(n),
-            fits: blank,
-        };
+    check_sizes(stored, shifted)?;
+    Ok(rescan(number, 0, 8, stored, shifted, Fit::blanks()))
+}
+
+// Checks 1 and 2: the page is whole, and the buffer is that of its shifted bytes.
+pub(crate) fn check_sizes(stored: &[u8], shifted: &[u8]) -> Result<(), Refusal>
+    ensures { answer_in result ≡ checked (length stored.now) (length shifted.now) None }
+{
+    if stored.len() != 4096 {
+        return Err(Refusal::WrongPageLength(stored.len()));
     }
-    let m = shifted.len();
-    if m != 4080 {
-        return PageScan {
-            answer: Answer::WrongBufferLength(m),
-            fits: blank,
-        };
+    if shifted.len() != 4080 {
+        return Err(Refusal::WrongBufferLength(shifted.len()));
     }
-    let fits = crate::rescan::rescan(number, 0, 8, stored, shifted, blank);
-    PageScan {
-        answer: Answer::Accepted,
-        fits,
-    }
+    Ok(())
 }
 
 // Where the data of sector `s` end: those of the last one before the trailer.

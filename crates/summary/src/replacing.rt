@@ -6,19 +6,13 @@ ghost use Rattle.sector.specs.Fit.{fit_of, sector_of};
 ghost use Rattle.summary.specs.Page.{data_of};
 ghost use Rattle.summary.specs.Replace.{Renews};
 
+use crate::pages::check_sizes;
 use crate::rescan::rescan;
-use answers::Answer;
+use answers::Refusal;
 use sector::Fit;
 
-// The answer, and the eight fits with one place changed; of a refusal, those that were given.
-#[derive(Clone, Copy)]
-pub struct Changed {
-    pub answer: Answer,
-    pub fits: [Fit; 8],
-}
-
 // `new` takes the place of a sector's 512 bytes, of sector 7 data and trailer, and the summary follows: one sector is scanned, not eight.
-// What the trailer says is left to the decoding. A refusal changes nothing.
+// What the trailer says is left to the decoding. It gives the eight fits with one place changed; a refusal changes nothing.
 pub fn replace_sector(
     number: u64,
     sector: usize,
@@ -26,34 +20,14 @@ pub fn replace_sector(
     stored: &mut [u8],
     shifted: &mut [u8],
     fits: [Fit; 8],
-) -> Changed
+) -> Result<[Fit; 8], Refusal>
     ensures { Renews number sector new.now stored.old stored.new shifted.old shifted.new fits result }
 {
-    let n = stored.len();
-    if n != 4096 {
-        return Changed {
-            answer: Answer::WrongPageLength(n),
-            fits,
-        };
-    }
-    let m = shifted.len();
-    if m != 4080 {
-        return Changed {
-            answer: Answer::WrongBufferLength(m),
-            fits,
-        };
-    }
+    check_sizes(stored, shifted)?;
     if sector > 7 || new.len() != 512 {
-        return Changed {
-            answer: Answer::BadReplacement(sector),
-            fits,
-        };
+        return Err(Refusal::BadReplacement(sector));
     }
-    let next = put_sector(number, sector, new, stored, shifted, fits);
-    Changed {
-        answer: Answer::Accepted,
-        fits: next,
-    }
+    Ok(put_sector(number, sector, new, stored, shifted, fits))
 }
 
 fn put_sector(
@@ -70,6 +44,6 @@ fn put_sector(
     ensures shifted_after { shifted.new ≡ over shifted.old (sector * 512) (sector_of (offset_of number sector) (data_of sector new.now)) }
 {
     let start = sector * 512;
-    numbers::copy(new, &mut stored[start..start + 512]);
+    stored[start..start + 512].copy_from_slice(new);
     rescan(number, sector, 1, stored, shifted, fits)
 }

@@ -19,15 +19,12 @@ pub(crate) fn rescan(
     ensures shifted_after { shifted.new ≡ reshifted number stored.now first shifted.old count }
 {
     let mut next = fits;
-    let mut done: usize = 0;
-    while done < count {
+    for done in 0..count {
         let s = first + done;
         let start = s * 512;
         let end = sector_end(s);
         let offset = sector::ap_offset(number, s as u8);
-        let fit = quick::scan_sector(&stored[start..end], offset, &mut shifted[start..end]);
-        next[s] = fit;
-        done += 1;
+        next[s] = quick::scan_sector(&stored[start..end], offset, &mut shifted[start..end]);
     }
     next
 }

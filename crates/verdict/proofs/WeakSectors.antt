@@ -1,42 +1,69 @@
--- Laws of the sectors whose step is in doubt. Assumes nothing.
-use Prim.Native.Nat.{ℕ, ◌+◌, ◌<◌}
-use mathlib.Core.Path.{◌≡◌, refl, sym, ap, subst}
-use mathlib.Core.Bool.{true, false, not}
+-- Laws of a decoding's fits, and of the sectors whose step is in doubt. Assumes nothing.
+use Prim.Native.Nat.{ℕ, ◌+◌, ◌-◌, ◌*◌, ◌≤◌, ◌<◌}
+use mathlib.Core.Path.{◌≡◌, refl, sym, ◌∙◌}
+use mathlib.Core.Bool.{Bool, true, false, not}
 use mathlib.Core.List.{List}
-use mathlib.Core.Logic.{⊎_elim}
-use native.Mathlib.Nat.{eq-or-lt_of_le}
 use native.Mathlib.Numerals.{add-one}
 use native.Mathlib.Omega.{arith}
-use Rattle.lists.proofs.Least.{least-is, least-none}
+use lib.ListN.{length, set, take, drop}
+use Rattle.std.specs.Prelude.{Some, None, position}
+use Rattle.std.specs.List.{position_or_len}
+use Rattle.std.proofs.lemmas.Grind.{common_steps}
+use Rattle.std.proofs.lemmas.List.Quantifiers.{position-Some}
+use Rattle.std.proofs.lemmas.List.Sums.{position_or_len_is}
+use Rattle.lists.specs.Counts.{least, all_same}
+use Rattle.lists.proofs.Filled.{Filled, filled_none, filled_more, filled-all}
+use Rattle.lists.proofs.Least.{least-le, least-before, least-here}
+use Rattle.sector.specs.Scan.{blank_fit, blank_fits}
 use Rattle.sector.specs.Fit.{confident_of}
 use Rattle.sector.specs.declared.fits.Fit.{Fit}
-use Rattle.answers.specs.Warns.{with_warning}
-use Rattle.answers.specs.declared.notices.Warnings.{Warnings}
+use Rattle.summary.specs.Page.{sector_end}
+use Rattle.votes.proofs.Ballots.{exact-here}
+use Rattle.answers.specs.Warns.{Warnings, with_warning}
 use Rattle.answers.specs.declared.notices.WarningKind.TheVariants as warning
-use Rattle.verdict.specs.Sectors.{entry, first_weak, sector_warnings}
+use Rattle.verdict.specs.Sectors.{entry, refit_at, refit_of, first_weak, sector_warnings}
 
--- the first i sectors are confident
-pub record Confident (fits : List Fit) (i : ℕ) : Type 0 where
-  pub at : (j : ℕ) → j < i → confident_of (entry fits j) ≡ true
-
-module _ (fits : List Fit) where
-  pub confident-none : Confident fits 0
-  confident-none = record { at = λ j h. absurd (omega arith) }
-
-  pub confident-more : (i : ℕ) → Confident fits i → confident_of (entry fits i) ≡ true → Confident fits (i + 1)
-  confident-more i c t =
-      record { at = λ j h. ⊎_elim (λ e. subst (λ (k : ℕ). confident_of (entry fits k) ≡ true) (sym e) t) (λ l. c.at j l) (eq-or-lt_of_le (omega arith)) }
-
-  pub weak-here : (i : ℕ) → i < 8 → Confident fits i → confident_of (entry fits i) ≡ false → i ≡ first_weak fits
+-- the search of a list finds the first sector that is not confident
+module _ (fits : List Fit) (long : length fits ≡ 8) where
+  weak-first : position_or_len (λ f. not (confident_of f)) fits ≡ first_weak fits
   unfolding first_weak
-  weak-here i h c t = sym (least-is (λ s. not (confident_of (entry fits s))) 8 i h (ap not t) (λ j l. ap not (c.at j l)))
+  weak-first =
+      let p : ℕ → Bool = λ s. not (confident_of (entry fits s)) in
+      position_or_len_is _ fits (least p 8) blank_fit (omega (arith, least-le p 8)) (least-before p 8) (λ h. least-here p 8 (omega arith))
 
-  pub weak-none : (i : ℕ) → i ≡ 8 → Confident fits i → 8 ≡ first_weak fits
-  unfolding first_weak
-  weak-none i e c = sym (least-none (λ s. not (confident_of (entry fits s))) 8 (λ j l. ap not (c.at j (omega arith))))
+  pub weak-here : (s : ℕ) → position (λ f. not (confident_of f)) fits ≡ Some s → (s ≡ first_weak fits) × (s < 8)
+  weak-here s e =
+      let h = position-Some _ fits s blank_fit e in
+      let n : position_or_len (λ f. not (confident_of f)) fits ≡ s = grind (arith, common_steps) in
+      (sym n ∙ weak-first, omega (arith, h.0))
 
--- what the loop of `first_weak` goes by
-pub ruleset weakness = (confident-none, confident-more, weak-here, weak-none)
+  pub weak-none : position (λ f. not (confident_of f)) fits ≡ None → 8 ≤ first_weak fits
+  weak-none e =
+      let n : 8 ≤ position_or_len (λ f. not (confident_of f)) fits = grind (arith, common_steps) in
+      omega (arith, weak-first)
+
+-- the fits of the first s sectors, each with the exactness of its shifted bytes
+module _ (fits : List Fit) (shifted : List ℕ) where
+  pub refit-none : Filled (refit_at fits shifted) 8 0 blank_fits
+  refit-none = filled_none _ _ _ refl
+
+  pub refit-more :
+      (table : List Fit) (s e : ℕ) (x : Bool)
+      → Filled (refit_at fits shifted) 8 s table
+      → s < 8
+      → e ≡ sector_end s
+      → x ≡ all_same (take (e - s * 512) (drop (s * 512) shifted))
+      → Filled (refit_at fits shifted) 8 (s + 1)
+      (set table s
+      (record { step = (entry fits s).step; peak = (entry fits s).peak; runner_up = (entry fits s).runner_up; exact = x; tied = (entry fits s).tied }))
+  refit-more table s e x i h he hx = filled_more _ _ _ s _ i h (rw (sym (exact-here shifted s e x he hx)))
+
+  pub refit-all : (table : List Fit) (s : ℕ) → Filled (refit_at fits shifted) 8 s table → 8 ≤ s → table ≡ refit_of fits shifted
+  unfolding refit_of
+  refit-all table s i h = filled-all _ _ _ s i h
+
+-- what the loop of `refit` begins and ends by
+pub ruleset refitting = (refit-none, refit-all)
 
 -- the warnings of the first n sectors
 module _ (number : ℕ) (fits : List Fit) (ws : Warnings) where
@@ -55,3 +82,6 @@ module _ (number : ℕ) (fits : List Fit) (ws : Warnings) where
       ≡ with_warning (sector_warnings number fits ws n) number (warning.LowConfidenceSector n (entry fits n).peak (entry fits n).runner_up)
   unfolding sector_warnings
   warned-weak n h = rw (add-one, h)
+
+-- what the loop of `warn_sectors` goes by
+pub ruleset weakness = (warned-none, warned-sure, warned-weak)

@@ -7,9 +7,8 @@ use Rattle.sector.specs.Fit.{confident_of}
 use Rattle.sector.specs.declared.fits.Fit.{Fit}
 use Rattle.sector.specs.Scan.{blank_fit}
 use Rattle.summary.specs.Page.{part}
-use Rattle.answers.specs.Warns.{with_warning}
+use Rattle.answers.specs.Warns.{Warnings, with_warning}
 use Rattle.answers.specs.declared.notices.WarningKind.TheVariants as warning
-use Rattle.answers.specs.declared.notices.Warnings.{Warnings}
 
 abbrev pub entry : List Fit → ℕ → Fit
 entry fits s = get_or fits s blank_fit

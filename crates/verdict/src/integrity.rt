@@ -1,29 +1,23 @@
 // What becomes of a page by the answer on its integrity: `found`.
 ghost use Rattle.std.specs.Prelude.{◌≡◌};
-ghost use Rattle.verdict.specs.Verdict.{integrity_refuses, integrity_warning};
+ghost use Rattle.answers.specs.Answers.{answer_in};
+ghost use Rattle.verdict.specs.Verdict.{integrity_left, integrity_warning};
 
-use answers::{Answer, Options, WarningKind};
+use answers::{Options, Refusal, WarningKind};
 
-// Whether it refuses the page: a refused page needs no scan.
-pub fn is_refused(found: Answer, options: Options) -> bool
-    ensures { result ≡ integrity_refuses found options }
+// What is left of it under leniency: a refused page needs no scan.
+pub fn let_through(found: Result<(), Refusal>, options: Options) -> Result<(), Refusal>
+    ensures { answer_in result ≡ integrity_left (answer_in found) options }
 {
-    if found.accepted() {
-        return false;
-    }
-    let leniency = options.leniency;
-    !leniency.integrity()
+    if options.integrity() { Ok(()) } else { found }
 }
 
-// What is left of it as a warning, where it does not refuse.
-pub(crate) fn integrity_warning(found: Answer) -> WarningKind
-    ensures { result ≡ integrity_warning found }
+// And as a warning, where it does not refuse.
+pub(crate) fn integrity_warning(found: Result<(), Refusal>) -> Option<WarningKind>
+    ensures { result ≡ integrity_warning (answer_in found) }
 {
-    if found.accepted() {
-        return WarningKind::Nothing;
-    }
-    if found.number() == 3 {
-        return WarningKind::BadCrc;
-    }
-    WarningKind::BadTrailer
+    found.err().map(|refusal| match refusal {
+        Refusal::BadCrc { .. } => WarningKind::BadCrc,
+        _ => WarningKind::BadTrailer,
+    })
 }

@@ -11,11 +11,11 @@ mod sectors;
 use answers::Warnings;
 use choice::Choice;
 pub use decisions::{decide, decide_supplied};
-pub use integrity::is_refused;
-pub use results::{refused, unallocated};
+pub use integrity::let_through;
+pub use results::unallocated;
 use sector::Fit;
 
-// The choice with its answer, the eight fits, the warnings in order. Of a refusal, blanks beside the choice.
+// The choice, the eight fits, the warnings in order.
 #[derive(Clone, Copy)]
 pub struct Decoding {
     pub choice: Choice,

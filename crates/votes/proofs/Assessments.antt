@@ -1,10 +1,9 @@
 -- One value more among the candidates, and the assessment that they make. Assumes nothing.
-use Prim.Native.Nat.{ℕ, ◌+◌, ◌≤◌, ◌<◌}
+use Prim.Native.Nat.{ℕ, ◌+◌, ◌<◌}
 use mathlib.Core.Path.{◌≡◌, refl, sym, ap, ap₂, ◌∙◌}
 use mathlib.Core.Bool.{Bool, true, false, ◌&&◌, ◌||◌}
 use mathlib.Core.List.{List}
-use borrow.Author.Tests.{eq-eqb, ne_eqb, lt-ltb, le-ltb}
-use native.Mathlib.Omega.{arith}
+use borrow.Author.Tests.{eq-eqb, ne_eqb}
 use lib.Dec.{ltb, leb}
 use lib.ListN.{length}
 use Rattle.lists.specs.Bytes.{byte_at}
@@ -25,15 +24,6 @@ use Rattle.votes.specs.CountTables.{key_of, ballots_of, Leads, Assesses}
 module _ (zeros votes v fourth : ℕ) where
   abbrev pub passes : Bool
   passes = ltb 0 votes || (ltb 0 zeros && leb fourth (key_of zeros v))
-
-  pub passes-voted : 0 < votes → true ≡ passes
-  passes-voted h = rw (lt-ltb 0 votes h)
-
-  pub passes_none : votes ≤ 0 → zeros ≡ 0 → false ≡ passes
-  passes_none h e = rw (le-ltb 0 votes h, le-ltb 0 zeros (omega arith))
-
-  pub passes-common : votes ≤ 0 → (zeros ≡ 0 → ⊥) → leb fourth (key_of zeros v) ≡ passes
-  passes-common h n = rw (le-ltb 0 votes h, lt-ltb 0 zeros (omega arith))
 
 pub assesses-long : (shifted counts votes : List ℕ) (fourth : ℕ) → Assesses shifted counts votes fourth → (length counts ≡ 256) × (length votes ≡ 256)
 unfolding counts_of

@@ -1,11 +1,15 @@
 -- Laws of tests on numbers. Assumes nothing.
-use Prim.Native.Nat.{ℕ, ◌+◌, ◌-◌, ◌≤◌, ◌<◌, max, min}
+use Prim.Native.Nat.{ℕ, ◌+◌, ◌≤◌, ◌<◌, max, min}
 use mathlib.Core.Path.{◌≡◌, refl, sym, ap, ◌∙◌}
 use mathlib.Core.Bool.{Bool, true, false}
+use mathlib.Core.List.{List, [], ◌∷◌}
+use native.Mathlib.Decide.{ℕ_discrete}
 use native.Mathlib.Omega.{arith}
-use borrow.Author.Tests.{lt-ltb, le-ltb, ltb-true, ltb-false}
-use lib.Dec.{ltb}
+use borrow.Author.Tests.{lt-ltb, le-ltb, ltb-true, ltb-false, eq-eqb, ne_eqb}
+use lib.Dec.{eqb, ltb}
+use Rattle.std.specs.List.{list_any}
 use Rattle.lists.specs.Cases.{flag}
+use Rattle.lists.specs.Counts.{is_in}
 
 -- of two numbers the first is the smaller, or it is not
 pub lt-cases : (P : Type 0) (a b : ℕ) → (a < b → P) → (b ≤ a → P) → P
@@ -49,6 +53,12 @@ module _ (x : ℕ) where
           let q : min y z ≡ z = omega arith in
           omega (arith, ap (below x) p, ap (below x) q)
 
--- a turn less is left
-pub fewer : (n k : ℕ) → k < n → n - (k + 1) < n - k
-fewer n k h = omega arith
+-- an element that equals v: v is in the list
+pub any-in : (v : ℕ) (l : List ℕ) → list_any (λ y. eqb y v) l ≡ is_in v l
+unfolding is_in
+any-in v [] = refl
+any-in v (y ∷ l) = go (any-in v l) (ℕ_discrete v y)
+  where
+    go : list_any (λ y. eqb y v) l ≡ is_in v l → Dec (v ≡ y) → list_any (λ y. eqb y v) (y ∷ l) ≡ is_in v (y ∷ l)
+    go rest (yes e) = rw (eq-eqb v y e, eq-eqb y v (sym e))
+    go rest (no ne) = rw (ne_eqb v y ne, ne_eqb y v (λ e. ne (sym e))) rest

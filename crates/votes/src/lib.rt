@@ -14,7 +14,7 @@ ghost use Rattle.votes.specs.Votes.{no_candidates, with_candidate, assessed};
 pub use polls::{Poll, votes_for};
 
 // A value that bv may have, and what speaks for it.
-#[derive(Clone, Copy)]
+#[derive(Clone, Copy, PartialEq, Eq, Default)]
 pub struct Candidate {
     pub bv: u8,
     pub zeros: u16,
@@ -43,16 +43,14 @@ pub fn assess(shifted: &[u8], anchors: &[u8], limit: usize, n: u8, t: u8) -> Ass
     ensures { result ≡ assessed limit shifted.now anchors.now n t }
 {
     if shifted.len() != 4080 {
-        let none = Candidates::none();
         return Assessment {
-            candidates: none,
+            candidates: Candidates::none(),
             total: 0,
             top: 0,
         };
     }
     let counts = counts::value_counts(shifted);
     let ballots = polls::exact_votes(shifted);
-    let votes = ballots.votes;
     let leaders = commonest::leaders(&counts);
     let candidates = listing::candidates(
         shifted,
@@ -61,7 +59,7 @@ pub fn assess(shifted: &[u8], anchors: &[u8], limit: usize, n: u8, t: u8) -> Ass
         n,
         t,
         &counts,
-        &votes,
+        &ballots.votes,
         leaders.fourth,
     );
     Assessment {
@@ -75,15 +73,10 @@ impl Candidates {
     pub fn none() -> Self
         ensures { result ≡ no_candidates }
     {
-        let blank = Candidate {
-            bv: 0,
-            zeros: 0,
-            votes: 0,
-            verified: false,
-            anchored: false,
-        };
-        let items = [blank; 8];
-        Candidates { items, len: 0 }
+        Candidates {
+            items: [Candidate::default(); 8],
+            len: 0,
+        }
     }
 
     // One candidate more; a full table stays as it is.

@@ -3,10 +3,8 @@ ghost use Rattle.std.specs.Prelude.{◌≡◌, length};
 ghost use Rattle.votes.specs.Votes.{poll_of};
 ghost use Rattle.votes.specs.CountTables.{ballots_of};
 
-use numbers::wide;
-
 // The votes for one value, and all votes.
-#[derive(Clone, Copy)]
+#[derive(Clone, Copy, PartialEq, Eq, Default)]
 pub struct Poll {
     pub votes: u16,
     pub total: u16,
@@ -24,13 +22,11 @@ pub fn votes_for(shifted: &[u8], bv: u8) -> Poll
     ensures { result ≡ poll_of shifted.now bv }
 {
     if shifted.len() != 4080 {
-        return Poll { votes: 0, total: 0 };
+        return Poll::default();
     }
     let ballots = exact_votes(shifted);
-    let votes = ballots.votes;
-    let at = wide(bv);
     Poll {
-        votes: votes[at],
+        votes: ballots.votes[usize::from(bv)],
         total: ballots.total,
     }
 }
@@ -42,16 +38,13 @@ pub(crate) fn exact_votes(shifted: &[u8]) -> Ballots
 {
     let mut votes = [0u16; 256];
     let mut total: u16 = 0;
-    let mut s: usize = 0;
-    while s < 8 {
+    for s in 0..8 {
         let start = s * 512;
         let end = summary::sector_end(s);
         if sector::all_same(&shifted[start..end]) {
-            let v = wide(shifted[start]);
-            votes[v] = votes[v] + 1;
+            votes[usize::from(shifted[start])] += 1;
             total += 1;
         }
-        s += 1;
     }
     Ballots { votes, total }
 }

@@ -1,20 +1,6 @@
--- `put_directory` meets its contract: its fields, and the slots behind them.
-use native.Mathlib.Omega.{arith}
-use Rattle.fields.proofs.Puts.{layout-short}
-use Rattle.parse_layout.proofs.Sizes.{found-size}
-use Rattle.parse_layout.proofs.Wholes.{found-written}
+-- `put_directory` meets its contract, by whether a directory is listed.
+use Rattle.parse_layout.proofs.Slots.{no-directory}
 use Rattle.parse_layout.proofs.put_directory.Goals as goal
 
-pub returns-then-out-lt-DIRECTORY_SIZE : goal.returns-then-out-lt-DIRECTORY_SIZE
-returns-then-out-lt-DIRECTORY_SIZE c =
-    layout-short _ (found-size _ _) (omega arith)
-
-pub returns-then-out-at : goal.returns-then-out-at
-returns-then-out-at c =
-    layout-short _ (found-size _ _) (omega arith)
-
-pub returns : goal.returns
-returns c =
-    let a = c.args in
-    found-written a.plain.now a.l c.requires.0 c.requires.1 (λ i. omega (arith, c.type_inv.plain i))
-    c.put_listed-at.ensures c.put_slots.ensures (omega arith)
+pub returns-in-None : goal.returns-in-None
+returns-in-None c = rw c.in-None.is (no-directory c.args.plain.now c.put_zeros.ensures)

@@ -5,18 +5,16 @@ use borrow.Author.Rules.{rules}
 use Rattle.votes.proofs.assess.Goals as goal
 
 pub returns-then-shifted-ne4080 : goal.returns-then-shifted-ne4080
-returns-then-shifted-ne4080 c = sym (assessed-not _ _ _ _ _ (search rules) ∙ rw c.none-none.ensures)
+returns-then-shifted-ne4080 c = sym (assessed-not _ _ _ _ _ (search rules) ∙ rw c.none.ensures)
 
 pub candidates-candidates-requires : goal.candidates-candidates-requires
 candidates-candidates-requires c =
-    let l = c in
-    let e = l in
-    assesses-made _ _ _ l.leaders-leaders.result e.value_counts-counts.ensures e.exact_votes-ballots.ensures l.leaders-leaders.ensures
+    assesses-made _ _ _ c.leaders-leaders.result c.value_counts-counts.ensures c.exact_votes-ballots.ensures c.leaders-leaders.ensures
 
 pub returns : goal.returns
 returns c =
-    let l = c in
-    let e = l in
-    let a = e.args in
-    assessment-made a.limit a.shifted.now a.anchors.now a.n a.t _ e.exact_votes-ballots.result _ _ e.value_counts-counts.ensures e.exact_votes-ballots.ensures l.leaders-leaders.ensures.top c.candidates-candidates.ensures
+    let a = c.args in
+    assessment-made a.limit a.shifted.now a.anchors.now a.n a.t _ c.exact_votes-ballots.result _ _ c.value_counts-counts.ensures c.exact_votes-ballots.ensures
+    c.leaders-leaders.ensures.top
+    c.candidates-candidates.ensures
     ∙ sym (assessed-is _ _ _ _ _ (search rules))

@@ -1,5 +1,4 @@
 -- `modal_counts` meets its contract: the table is filled with the modal counts of the steps that were seen.
-use Prim.Native.Nat.{◌-◌}
 use mathlib.Core.Path.{◌≡◌}
 use lib.ListN.{length}
 use Rattle.lists.proofs.Filled.{Filled}
@@ -9,6 +8,3 @@ use Rattle.classes.proofs.counts.modal_counts.Given as goal
 abbrev pub invariant-loop-step : goal.invariant-loop-step
 invariant-loop-step l =
     (length l.room ≡ length l.stored) × Filled (modal_at l.offset l.stored) 256 l.step l.counts
-
-abbrev pub decreases-loop-step : goal.decreases-loop-step
-decreases-loop-step l = 256 - l.step

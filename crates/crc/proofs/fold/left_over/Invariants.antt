@@ -1,10 +1,6 @@
 -- `left_over`: one more octet is there a turn (`left-more`).
-use Prim.Native.Nat.{◌-◌, ◌≤◌}
 use Rattle.crc.specs.Folds.{LeftOver}
 use Rattle.crc.proofs.fold.left_over.Given as goal
 
 abbrev pub invariant-loop-k : goal.invariant-loop-k
-invariant-loop-k l = (l.k ≤ 304) × LeftOver l.octets l.sums l.left l.j l.k
-
-abbrev pub decreases-loop-k : goal.decreases-loop-k
-decreases-loop-k l = 304 - l.k
+invariant-loop-k l = LeftOver l.octets l.sums l.left l.j l.k

@@ -22,7 +22,7 @@ loop-i-init c = (
   omega arith,
   omega arith,
   record { l1 = omega (arith, c.ranges.start.fits); l2 = lit< tt; l3 = lit< tt; l4 = lit< tt; l5 = lit< tt },
-  ap (λ (x : ℕ). register_after x c.args.octets.now) (start c.args.start),
+  ap (λ (x : ℕ). register_after x c.args.octets.now) (start c.from-n1.result ∙ c.from-n1.ensures),
 )
 
 pub loop-i-preserved : goal.loop-i-preserved

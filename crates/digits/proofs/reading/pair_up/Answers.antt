@@ -3,10 +3,8 @@ use Rattle.std.proofs.Common.{◌∙◌, rules}
 use Rattle.digits.proofs.Spelling.{pairs-no, pairs-yes}
 use Rattle.digits.proofs.reading.pair_up.Goals as goal
 
-pub returns-then-bytes-values : goal.returns-then-bytes-values
-returns-then-bytes-values c =
-    pairs-no _ _ (search rules)
+pub returns-then-n-bytes : goal.returns-then-n-bytes
+returns-then-n-bytes c = c.put_pairs.ensures ∙ pairs-yes _ _ (search rules)
 
-pub returns : goal.returns
-returns c =
-    c.put_pairs.ensures ∙ pairs-yes _ _ (search rules)
+pub returns-else-n-bytes : goal.returns-else-n-bytes
+returns-else-n-bytes c = pairs-no _ _ (search rules)

@@ -6,5 +6,5 @@ pub returns-then-value-lt10 : goal.returns-then-value-lt10
 returns-then-value-lt10 c =
     rw (lt-ltb _ _ c.if-value-lt10.true)
 
-pub returns : goal.returns
-returns c = rw (le-ltb _ _ c.if-value-lt10.false) (omega arith)
+pub returns-else-value-lt10 : goal.returns-else-value-lt10
+returns-else-value-lt10 c = rw (le-ltb _ _ c.if-value-lt10.false) (omega arith)

@@ -5,4 +5,4 @@ use Rattle.frame.proofs.Frames.{big-eight}
 use Rattle.frame.proofs.reading.page_number.Goals as goal
 
 pub returns : goal.returns
-returns c = c.eight.ensures ∙ big-eight c.args.bytes.now (search rules)
+returns c = c.from_be_bytes.ensures ∙ big-eight c.args.bytes.now (search rules)

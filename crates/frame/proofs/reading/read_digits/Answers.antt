@@ -1,10 +1,11 @@
 -- `read_digits` meets its contract: a law for each way out, and the facts of a line of digits.
 use borrow.Author.Rules.{rules}
-use Prim.Native.Nat.{◌+◌, ◌-◌, ◌*◌, ◌<◌}
-use mathlib.Core.Path.{◌≡◌, ap₂, ◌∙◌}
+use Prim.Native.Nat.{◌+◌, ◌*◌, ◌<◌}
+use mathlib.Core.Path.{◌≡◌, ap, ap₂, ◌∙◌}
 use mathlib.Core.Bool.{false}
 use native.Mathlib.Omega.{arith}
 use lib.ListN.{length}
+use Rattle.std.proofs.Common.{Some}
 use Rattle.lists.specs.Pieces.{over}
 use Rattle.digits.specs.Digits.{worst_of, spelled}
 use Rattle.digits.proofs.Values.{values-yes}
@@ -26,8 +27,8 @@ returns-then-line-n c =
     let l = a.line.now in
     let d = c.digit_values in
     let worst : worst_of l < 16 = omega (arith, d.ensures.value, (values-yes l a.values.now (search rules)).0) in
-    let n : c.wide-n.result ≡ anchor_count l =
-    c.wide-n.ensures.0 ∙ c.digit_pair.ensures ∙ count_of l a.values.now d.new.values (search rules) d.ensures.values_after worst (search rules) in
+    let n : c.from-n.result ≡ anchor_count l =
+    c.from-n.ensures ∙ c.digit_pair.ensures ∙ count_of l a.values.now d.new.values (search rules) d.ensures.values_after worst (search rules) in
     let other : is_frame l ≡ false = frame-count l (λ q. c.if-line-n.true (omega arith)) in
     record { value = answer-no l other; bytes_after = bytes-no l a.bytes.now (search rules) other }
 
@@ -37,13 +38,13 @@ returns c =
     let l = a.line.now in
     let d = c.digit_values in
     let worst : worst_of l < 16 = omega (arith, d.ensures.value, (values-yes l a.values.now (search rules)).0) in
-    let n : c.wide-n.result ≡ anchor_count l =
-    c.wide-n.ensures.0 ∙ c.digit_pair.ensures ∙ count_of l a.values.now d.new.values (search rules) d.ensures.values_after worst (search rules) in
+    let n : c.from-n.result ≡ anchor_count l =
+    c.from-n.ensures ∙ c.digit_pair.ensures ∙ count_of l a.values.now d.new.values (search rules) d.ensures.values_after worst (search rules) in
     let e : length l ≡ 2 * (least_frame + anchor_count l) = omega arith in
     let small = count-byte l worst (search rules) in
     let written : c.pair_up.new.bytes ≡ over a.bytes.now 0 (spelled l) =
-    c.pair_up.ensures ∙ pairs_of l a.values.now d.new.values (search rules) d.ensures.values_after worst (length l - 0) a.bytes.now (omega arith) (omega arith) in
+    c.pair_up.ensures ∙ pairs_of l a.values.now d.new.values (search rules) d.ensures.values_after worst (length l) a.bytes.now (omega arith) (omega arith) in
     record {
-      value = c.fields.ensures ∙ ap₂ good_of written n ∙ answer-yes l a.bytes.now worst e;
+      value = ap Some (c.fields.ensures ∙ ap₂ good_of written n) ∙ answer-yes l a.bytes.now worst e;
       bytes_after = written ∙ bytes-yes l a.bytes.now (search rules) (frame-yes l worst e);
     }

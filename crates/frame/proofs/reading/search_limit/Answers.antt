@@ -5,4 +5,4 @@ use Rattle.frame.proofs.Frames.{big-two}
 use Rattle.frame.proofs.reading.search_limit.Goals as goal
 
 pub returns : goal.returns
-returns c = c.pair.ensures ∙ big-two c.args.bytes.now (search rules)
+returns c = c.from.ensures ∙ c.from_be_bytes.ensures ∙ big-two c.args.bytes.now (search rules)

@@ -1,40 +1,22 @@
--- Candidate after candidate the table holds the members so far.
-use borrow.Author.Rules.{rules}
-use Prim.Native.Nat.{ℕ, min}
-use mathlib.Core.Path.{◌≡◌, sym, ap, ◌∙◌}
-use Rattle.lists.specs.Pieces.{each}
-use Rattle.votes.specs.Votes.{with_candidate, tabled, candidate_at}
-use Rattle.votes.specs.declared.Candidates.{Candidates}
-use Rattle.groups.specs.Groups.{members, kept_of}
-use Rattle.groups.proofs.GroupTable.{sifted-none, sifted-yes, sifted-no}
+-- A fold over the members.
+use Rattle.std.proofs.Common.{◌≡◌, ap, ap₂, ◌∙◌, rules, tests}
+use Rattle.std.specs.List
+use Rattle.std.proofs.lemmas.Iterator.{YieldsList-from_slice}
+use Rattle.std.proofs.lemmas.Iterator.Consumers.{YieldsList-from_filter, fold_from_yields_List}
+use Rattle.votes.specs.Votes.{with_candidate, tabled}
+use Rattle.groups.specs.Groups.{belongs, kept_of}
+use Rattle.groups.proofs.Listed.{fold-same, keep-same}
 use Rattle.groups.proofs.members.kept.Goals as goal
-use Rattle.groups.proofs.members.kept.Goals.{then-is_member, else-is_member}
-
-pub loop-i-init : goal.loop-i-init
-loop-i-init c =
-    let a = c.args in
-    (search rules, c.none-out.ensures ∙ sifted-none a.g a.t)
-
-pub loop-i-preserved : goal.loop-i-preserved
-loop-i-preserved c =
-    let l = c.loop-i in
-    let a = c.args in
-    let m = c.is_member.ensures in (
-      search rules,
-      elim c.if-is_member.branch [
-        | then-is_member w ↦
-            w.out-is
-            ∙ w.with-out.ensures
-            ∙ ap (λ (x : Candidates). with_candidate x (candidate_at a.t l.i)) l.invariant.1
-            ∙ sifted-yes a.g a.t l.i (sym m ∙ w.if-is_member.true)
-        | else-is_member w ↦ w.out-is ∙ l.invariant.1 ∙ sifted-no a.g a.t l.i (sym m ∙ w.if-is_member.false)
-      ],
-    )
 
 pub returns : goal.returns
-unfolding kept_of
+unfolding kept_of tabled
 returns c =
-    let l = c.loop-i in
-    let a = c.args in
-    let e : l.i ≡ min a.t.len 8 = search rules in
-    l.invariant.1 ∙ ap (λ (k : ℕ). tabled (members a.g (each (candidate_at a.t) k))) e
+    let g = belongs c.args.g in
+    let e : c.fold.result ≡ List.fold with_candidate c.none.result (List.filter g c.listed.result.now) =
+    fold_from_yields_List _ with_candidate _ _ c.fold.ensures.ran
+    (YieldsList-from_filter _ g (YieldsList-from_slice c.listed.result.now cc) c.filter.ensures.closure (λ x r q k. search (rules, tests)))
+    (λ a x b q k. search (rules, tests)) in
+    e
+    ∙ ap₂ (λ t l. List.fold with_candidate t (List.filter g l)) c.none.ensures c.listed.ensures
+    ∙ ap (List.fold with_candidate _) (keep-same g _)
+    ∙ fold-same with_candidate _ _

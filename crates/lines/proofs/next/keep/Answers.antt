@@ -1,6 +1,5 @@
 -- `keep` meets its contract: the lesser of what is left and what there is room for.
 use borrow.Author.Rules.{rules}
-use Prim.Native.Nat.{◌-◌}
 use native.Mathlib.Omega.{arith}
 use Rattle.lines.proofs.Found.{keep-none, keep_some}
 use Rattle.lines.proofs.next.keep.Goals as goal
@@ -13,7 +12,7 @@ returns-then-line-kept c =
 
 pub returns : goal.returns
 returns c =
-    let n = c.lesser-n in
+    let n = c.min-n in
     let a = c.args in
-    let e = keep_some a.line.now a.kept a.part.now (n.result - 0) _ _ (search rules) (omega (arith, n.ensures)) c.put_bytes.ensures in
+    let e = keep_some a.line.now a.kept a.part.now n.result _ _ (search rules) (omega (arith, n.ensures)) c.put_bytes.ensures in
     record { value = e.0; line_after = e.1 }

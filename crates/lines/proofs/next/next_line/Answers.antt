@@ -15,7 +15,7 @@ returns-then-block-from c =
 pub returns-then-block-end : goal.returns-then-block-end
 returns-then-block-end c =
     let a = c.args in
-    let k = c.keep-len.ensures in
+    let k = c.keep-kept.ensures in
     let e = next-rest a.line.now a.kept _ _ _ c.line_end-end.ensures _ _ _ (k.value, k.line_after) (search rules) (search rules) refl in
     record { value = e.0; line_after = e.1 }
 
@@ -38,6 +38,6 @@ slice_bounds-keep-start-2 c =
 pub returns : goal.returns
 returns c =
     let a = c.args in
-    let k = c.keep-len-2.ensures in
+    let k = c.keep-kept-2.ensures in
     let e = next-begun a.line.now a.kept _ _ _ c.line_end-end.ensures _ _ _ (k.value, k.line_after) (search rules) c.if-kept-eq0.false refl in
     record { value = e.0; line_after = e.1 }

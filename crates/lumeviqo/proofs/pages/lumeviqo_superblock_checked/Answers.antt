@@ -6,4 +6,4 @@ use Rattle.lumeviqo.proofs.pages.lumeviqo_superblock_checked.Goals as goal
 
 pub returns : goal.returns
 returns c =
-    wrote-same (ap superblock_bytes c.parse_checked-found.ensures) c.write_superblock.ensures
+    wrote-same (ap superblock_bytes c.parse_checked.ensures) c.write.ensures

@@ -6,4 +6,4 @@ use Rattle.lumeviqo.proofs.pages.lumeviqo_trailer.Goals as goal
 
 pub returns : goal.returns
 returns c =
-    wrote-same (ap trailer_bytes c.parse-found.ensures) c.write_trailer.ensures
+    wrote-same (ap trailer_bytes c.parse.ensures) c.write.ensures

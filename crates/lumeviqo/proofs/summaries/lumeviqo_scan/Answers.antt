@@ -9,4 +9,4 @@ returns-then-answer-lt-SCAN_SIZE c =
 
 pub returns : goal.returns
 returns c =
-    scan-made _ (omega arith) c.scan_page-found.ensures.value c.scan_page-found.ensures.shifted_after c.write_scan.ensures
+    scan-made _ (omega arith) c.scan_page-found.ensures.value c.scan_page-found.ensures.shifted_after c.write.ensures

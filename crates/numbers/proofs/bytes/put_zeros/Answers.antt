@@ -1,26 +1,17 @@
 -- `put_zeros` meets its contract: the part of the buffer at the place is filled.
-use Prim.Native.Nat.{ℕ, ◌+◌, ◌-◌}
-use mathlib.Core.Path.{ap, ◌∙◌}
-use mathlib.Core.List.{List, ◌++◌}
+use Rattle.std.proofs.Common.{rules, ◌≡◌, ℕ, replicate}
 use native.Mathlib.Omega.{arith}
-use lib.ListN.{take, drop}
-use Rattle.numbers.proofs.Copies.{zeros-short, zeros-part, zeros-all}
+use lib.ListN.{length-replicate}
+use Rattle.numbers.proofs.Stored.{wrote-not, wrote-over}
+use Rattle.numbers.proofs.Copies.{over-part}
 use Rattle.numbers.proofs.bytes.put_zeros.Goals as goal
 
-pub returns-then-out-n : goal.returns-then-out-n
-returns-then-out-n c =
-    zeros-short _ _ c.args.n (omega arith)
-
-pub returns-then-out-n-2 : goal.returns-then-out-n-2
-returns-then-out-n-2 c =
-    zeros-short _ _ c.args.n (omega arith)
+pub returns-in_default : goal.returns-in_default
+returns-in_default c = wrote-not (omega (arith, length-replicate {A = ℕ}, c.in_default.ensures))
 
 pub returns : goal.returns
 returns c =
-    let filled = c in
-    let a = filled.args in
-    let l : List ℕ = a.out.now in
-    let k : ℕ = a.at + a.n - a.at in
-    zeros-all l a.at a.n (omega arith)
-    (ap (λ (v : List ℕ). take a.at l ++ (v ++ drop k (drop a.at l))) filled.fill.ensures ∙ zeros-part l a.at a.n k k (omega arith) (omega arith) (omega arith))
-    (omega arith)
+    let e = c.in-Some.ensures in
+    let filled : c.fill.new.self ≡ replicate c.args.n 0 = search rules in
+    wrote-over (omega (arith, length-replicate {A = ℕ} c.args.n 0)) (over-part _ _ _ _ _ filled (omega (arith, length-replicate {A = ℕ} c.args.n 0)))
+    (omega (arith, length-replicate {A = ℕ} c.args.n 0))

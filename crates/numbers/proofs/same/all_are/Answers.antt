@@ -1,30 +1,14 @@
--- `all_are` meets its contract: whether all bytes are x is whether those from `at` on are.
-use mathlib.Core.Path.{refl, sym, ◌∙◌}
-use native.Mathlib.Omega.{arith}
-use borrow.Author.Rules.{rules}
-use Rattle.lists.proofs.Same.{are_all}
-use Rattle.numbers.proofs.Blocks.{block_same, block-other}
+-- `all_are` meets its contract: the bytes are taken block by block.
+use Rattle.std.proofs.Common.{rules, ◌∙◌, ap}
+use borrow.Author.Tests.{tests}
+use Rattle.std.specs.Slice.Iter.{chunks_rest, chunks_steps}
+use Rattle.lists.specs.Counts.{all_are}
+use Rattle.numbers.proofs.Blocks.{blocks-are}
 use Rattle.numbers.proofs.same.all_are.Goals as goal
-
-pub loop-at-init : goal.loop-at-init
-loop-at-init c = (search rules, refl)
-
-pub loop-at-preserved : goal.loop-at-preserved
-loop-at-preserved c =
-    let a = c.args in
-    let l = c.loop-at in
-    let end = c.block_end-end.result in
-    (omega arith, l.invariant.1 ∙ block_same a.x a.part.now l.at end (omega arith) (sym c.if-block_is.true ∙ c.block_is.ensures))
-
-pub returns-else-block_is : goal.returns-else-block_is
-returns-else-block_is c =
-    let a = c.args in
-    let l = c.loop-at in
-    let end = c.block_end-end.result in
-    sym (l.invariant.1 ∙ block-other a.x a.part.now l.at end (omega arith) (sym c.if-block_is.false ∙ c.block_is.ensures))
 
 pub returns : goal.returns
 returns c =
     let a = c.args in
-    let l = c.loop-at in
-    sym (l.invariant.1 ∙ are_all a.x a.part.now l.at (omega arith))
+    let h = c.all.ensures.ran in
+    blocks-are a.x chunks_steps chunks_rest _ _ (λ s t e. e.1.0) (λ s b t e. e.1.0) (λ b r f k. (search rules, search (rules, tests))) h.0 _ h.3.0 _ h.1 h.2 _ h.3.1 h.3.2 h.4 h.5
+    ∙ ap (all_are a.x) c.chunks.ensures.rest

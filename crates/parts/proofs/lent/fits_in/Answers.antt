@@ -1,8 +1,5 @@
 -- `fits_in` meets its contract: 64 bytes are read fit by fit.
-use mathlib.Core.Path.{ap}
-use native.Mathlib.Omega.{arith}
-use borrow.Author.Tests.{eq-eqb, ne_eqb}
-use lib.ListN.{length}
+use Rattle.std.proofs.Common.{length, ap, arith, eq-eqb, ne_eqb}
 use Rattle.lists.proofs.Filled.{filled_none, filled_more, filled-all}
 use Rattle.parts.specs.Parts.{fits_size}
 use Rattle.parts.specs.Lent.{fits_in}

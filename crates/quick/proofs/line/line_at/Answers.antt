@@ -1,5 +1,5 @@
--- `line_at` meets its contract: the place was reduced before it was multiplied.
-use Rattle.std.proofs.Common.{◌≡◌, ℕ, ◌+◌, ◌*◌, ◌%◌, ◌∙◌, arith}
+-- `line_at` meets its contract: the place may be reduced before it is multiplied.
+use Rattle.std.proofs.Common.{◌≡◌, ℕ, ◌+◌, ◌*◌, ◌%◌, arith}
 use Rattle.sector.proofs.Bytes.{mul-mod}
 use Rattle.quick.proofs.line.line_at.Goals as goal
 
@@ -9,5 +9,4 @@ sum-mod x p q e = omega arith
 pub returns : goal.returns
 returns c =
     let a = c.args in
-    c.wrapping_add_u8.ensures.value
-    ∙ sum-mod a.first (a.i * a.step) c.wrapping_mul_u8.result (c.wrapping_mul_u8.ensures ∙ mul-mod a.i a.step)
+    sum-mod a.first (a.i * a.step) _ (mul-mod a.i a.step)

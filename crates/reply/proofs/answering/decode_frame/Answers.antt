@@ -7,6 +7,6 @@ use Rattle.reply.proofs.answering.decode_frame.Goals as goal
 pub returns : goal.returns
 returns c =
     let a = c.args in
-    let n = a.n in
+    let n = a.frame.anchors in
     c.decode_page.ensures.0
-    ∙ decoded-parts a.number n (head_size + n + 4096 - (head_size + n)) (head_size + n - head_size) _ a.bytes.now _ _ (omega arith) (omega arith) (sym c.page_room-plain.ensures) c.new.ensures
+    ∙ decoded-parts a.frame.number n (head_size + n + 4096 - (head_size + n)) (head_size + n - head_size) _ a.bytes.now _ _ (omega arith) (omega arith) (sym c.page_room-plain.ensures) c.new.ensures

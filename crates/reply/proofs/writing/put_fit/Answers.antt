@@ -6,4 +6,4 @@ use Rattle.reply.proofs.writing.put_fit.Goals as goal
 pub returns : goal.returns
 returns c =
     let a = c.args in
-    fit-put a.bytes.now a.at a.f (search rules) c.bit.result c.bit.ensures c.put_big_u16.ensures c.put_big_u16-2.ensures c.put_big_u16-3.ensures
+    fit-put a.bytes.now a.at a.f (search rules) c.from.result c.from.ensures c.put_big.ensures c.put_big-2.ensures c.put_big-3.ensures

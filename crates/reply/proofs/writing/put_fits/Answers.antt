@@ -9,14 +9,12 @@ use Rattle.reply.proofs.writing.put_fits.Goals as goal
 
 pub loop-s-init : goal.loop-s-init
 unfolding joined
-loop-s-init c = (omega arith, sym (over_none c.args.bytes.now c.args.at))
+loop-s-init c = sym (over_none c.args.bytes.now c.args.at)
 
 pub loop-s-preserved : goal.loop-s-preserved
 loop-s-preserved c =
     let l = c.loop-s in
-    let a = c.args in (
-      omega arith,
-      c.put_fit.ensures
-          ∙ ap (λ (w : List ℕ). over w (a.at + 8 * l.s) (fit_report (entry a.fits l.s))) l.invariant.1
-          ∙ fits_more a.bytes.now a.at a.fits l.s (omega arith),
-    )
+    let a = c.args in
+    c.put_fit.ensures
+    ∙ ap (λ (w : List ℕ). over w (a.at + 8 * l.s) (fit_report (entry a.fits l.s))) l.invariant
+    ∙ fits_more a.bytes.now a.at a.fits l.s (omega arith)

@@ -14,4 +14,4 @@ unfolding doubled
 returns c =
     let l = c.loop-r in
     let a = c.args in
-    rings-all _ a.out.now l.r l.out (omega arith) (omega arith) l.invariant.1
+    rings-all _ a.out.now l.r l.out (omega arith) (omega arith) l.invariant

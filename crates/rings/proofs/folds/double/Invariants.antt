@@ -1,11 +1,8 @@
 -- `double` meets its contract: the first r rings stand twice.
-use Rattle.std.proofs.Common.{◌+◌, ◌-◌, ◌*◌, ◌≤◌}
+use Rattle.std.proofs.Common.{◌+◌, ◌*◌}
 use Rattle.lists.specs.Bytes.{byte_at}
 use Rattle.rings.proofs.Laid.{Rings}
 use Rattle.rings.proofs.folds.double.Given as goal
 
 abbrev pub invariant-loop-r : goal.invariant-loop-r
-invariant-loop-r l = (l.r ≤ 8) × Rings (λ k v. byte_at l.sixteen (2048 + k * 256 + v)) l.r l.out
-
-abbrev pub decreases-loop-r : goal.decreases-loop-r
-decreases-loop-r l = 8 - l.r
+invariant-loop-r l = Rings (λ k v. byte_at l.sixteen (2048 + k * 256 + v)) l.r l.out

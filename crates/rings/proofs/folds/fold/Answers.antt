@@ -14,5 +14,5 @@ unfolding folded
 returns c =
     let l = c.loop-r in
     let a = c.args in
-    rings-all _ a.out.now l.r l.out (omega arith) (omega arith) l.invariant.1
-    ∙ ap (λ (x : ℕ). folded a.sixteen.now a.twice.now x a.out.now) c.wide-x.ensures.0
+    rings-all _ a.out.now l.r l.out (omega arith) (omega arith) l.invariant
+    ∙ ap (λ (x : ℕ). folded a.sixteen.now a.twice.now x a.out.now) c.from-x.ensures

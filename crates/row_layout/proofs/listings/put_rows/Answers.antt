@@ -18,4 +18,4 @@ pub returns : goal.returns
 returns c =
     let a = c.args in
     rows-put (rows_at a.plain.now a.start a.count) a.out.now a.at c.put_starts-rows.result c.put_starts-rows.ensures.many c.put_starts-rows.ensures.few
-    c.put_starts-rows.ensures.put c.put_zeros.ensures c.put_size16.ensures (omega arith)
+    c.put_starts-rows.ensures.put c.put_zeros.ensures c.put_low.ensures (omega arith)

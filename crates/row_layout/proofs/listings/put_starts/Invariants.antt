@@ -1,7 +1,4 @@
 -- `put_starts` meets its contract: what `Listing` says holds from the far end on, and each row is put behind those before it.
-use Prim.Native.Nat.{◌+◌, ◌*◌}
-use mathlib.Core.Path.{◌≡◌}
-use lib.ListN.{length}
 use Rattle.lists.specs.Pieces.{joined}
 use Rattle.fields.specs.Fields.{pair_entry, Put}
 use Rattle.rows.specs.Rows.{rows_at}
@@ -10,9 +7,4 @@ use Rattle.row_layout.proofs.listings.put_starts.Given as goal
 
 abbrev pub invariant-loop-k : goal.invariant-loop-k
 invariant-loop-k l =
-    Listing l.plain l.start l.count l.stop l.k l.rows
-    × (length l.out ≡ length l.initial.out)
-    × Put l.initial.out l.at (joined (pair_entry (rows_at l.plain l.start l.count)) l.rows) l.out (l.at + 2 * l.rows)
-
-abbrev pub decreases-loop-k : goal.decreases-loop-k
-decreases-loop-k l = l.k
+    Listing l.plain l.start l.count l.stop l.k l.rows × Put l.initial.out l.at (joined (pair_entry (rows_at l.plain l.start l.count)) l.rows) l.out l.next

@@ -4,6 +4,3 @@ use Rattle.rows.proofs.spans.span_at.Given as goal
 
 abbrev pub invariant-loop-k : goal.invariant-loop-k
 invariant-loop-k l = Seeking l.plain l.start l.count l.r l.stop l.k l.left l.offset
-
-abbrev pub decreases-loop-k : goal.decreases-loop-k
-decreases-loop-k l = l.k

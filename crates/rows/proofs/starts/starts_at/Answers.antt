@@ -14,9 +14,9 @@ pub loop-k-preserved-then-is_kept : goal.loop-k-preserved-then-is_kept
 loop-k-preserved-then-is_kept c =
     let a = c.args in
     let rows = rows_at a.plain.now a.start a.count in
-    let v = c.slot_at-v.result in
+    let v = c.pair_at-v.result in
     let some = c.loop-k-test.true in
-    let is = c.slot_at-v.ensures.0 in
+    let is = c.pair_at-v.ensures.0 in
     let kept = sym c.is_kept.ensures ∙ c.if-is_kept.true in
     let g = c.loop-k.invariant.0 in
     let below = list-below a.plain.now a.start a.count _ c.loop-k.k c.loop-k.rows g v some is kept in
@@ -30,7 +30,7 @@ loop-k-preserved-then-is_kept c =
 
 pub loop-k-preserved : goal.loop-k-preserved
 loop-k-preserved c =
-    (list-skip _ _ _ _ _ _ c.loop-k.invariant.0 _ c.loop-k-test.true c.slot_at-v.ensures.0 (sym c.is_kept.ensures ∙ c.if-is_kept.false), c.loop-k.invariant.1)
+    (list-skip _ _ _ _ _ _ c.loop-k.invariant.0 _ c.loop-k-test.true c.pair_at-v.ensures.0 (sym c.is_kept.ensures ∙ c.if-is_kept.false), c.loop-k.invariant.1)
 
 pub returns : goal.returns
 returns c =

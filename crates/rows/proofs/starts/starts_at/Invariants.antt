@@ -9,6 +9,3 @@ use Rattle.rows.proofs.starts.starts_at.Given as goal
 abbrev pub invariant-loop-k : goal.invariant-loop-k
 invariant-loop-k l =
     Listing l.plain l.start l.count l.stop l.k l.rows × (l.starts ≡ over l.initial.starts 0 (take l.rows (take (length l.initial.starts) (rows_at l.plain l.start l.count))))
-
-abbrev pub decreases-loop-k : goal.decreases-loop-k
-decreases-loop-k l = l.k

@@ -1,27 +1,18 @@
 -- `modal_count` meets its contract: 0 where a check fails, else the greatest entry of a table of counts, which is the greatest count.
-use Rattle.std.proofs.Common.{◌≡◌, ℕ, ◌≤◌, List, length, sym, ap, ◌∙◌, arith, rules}
+use Rattle.std.proofs.Common.{◌≡◌, ℕ, ◌≤◌, List, length, sym, ap, ◌∙◌, arith}
 use Rattle.lists.specs.Counts.{count}
 use Rattle.lists.proofs.Greatest.{greatest-ext}
 use Rattle.sector.specs.Fit.{modal_of, modal_at}
-use Rattle.sector.proofs.Scans.{modal-long, shifted-long, modal-other, shifted-other, modal-scanned, shifted-scanned}
+use Rattle.sector.proofs.Scans.{modal-refused, shifted-refused, modal-scanned, shifted-scanned}
 use Rattle.sector.proofs.scan.modal_count.Goals as goal
 
 pub returns-then-stored-gt512 : goal.returns-then-stored-gt512
 returns-then-stored-gt512 c =
     let a = c.args in
+    let refused = c.then-stored-gt512.either in
     record {
-      value = modal-long a.offset a.stored.now a.step a.room.now (search rules);
-      room_after = shifted-long a.offset a.stored.now a.step a.room.now (search rules);
-    }
-
-pub returns-then-room-stored : goal.returns-then-room-stored
-returns-then-room-stored c =
-    let a = c.args in
-    let h : length a.stored.now ≤ 512 = omega arith in
-    let n = c.if-room-stored.true in
-    record {
-      value = modal-other a.offset a.stored.now a.step a.room.now h n;
-      room_after = shifted-other a.offset a.stored.now a.step a.room.now h n;
+      value = modal-refused a.offset a.stored.now a.step a.room.now refused;
+      room_after = shifted-refused a.offset a.stored.now a.step a.room.now refused;
     }
 
 pub returns-clause-value : goal.returns-clause-value

@@ -1,22 +1,15 @@
 -- `scan_sector` meets its contract: a blank where a check fails, else the fit and the bytes written under its step.
-use Rattle.std.proofs.Common.{◌≡◌, ◌<◌, ◌≤◌, length, sym, ap, ◌∙◌, arith}
+use Rattle.std.proofs.Common.{◌≡◌, ◌≤◌, length, sym, ap, ◌∙◌, arith}
 use Rattle.sector.specs.Fit.{shifted_list, sector_of}
 use Rattle.sector.specs.declared.fits.Fit.{Fit}
-use Rattle.sector.proofs.Scans.{fit-long, out-long, fit-other, out-other, fit-scanned, out-scanned, shifted-scanned}
+use Rattle.sector.proofs.Scans.{fit-refused, out-refused, fit-scanned, out-scanned, shifted-scanned}
 use Rattle.sector.proofs.scan.scan_sector.Goals as goal
 
 pub returns-then-stored-gt512 : goal.returns-then-stored-gt512
 returns-then-stored-gt512 c =
     let a = c.args in
-    let h : 512 < length a.stored.now = omega arith in
-    record { value = c.blank.ensures ∙ fit-long _ _ a.out.now h; out_after = out-long _ _ _ h }
-
-pub returns-then-out-stored : goal.returns-then-out-stored
-returns-then-out-stored c =
-    let a = c.args in
-    let h : length a.stored.now ≤ 512 = omega arith in
-    let n = c.if-out-stored.true in
-    record { value = c.blank-then-out-stored.ensures ∙ fit-other _ _ a.out.now h n; out_after = out-other _ _ _ h n }
+    let refused = c.then-stored-gt512.either in
+    record { value = c.blank.ensures ∙ fit-refused _ _ a.out.now refused; out_after = out-refused _ _ _ refused }
 
 pub returns : goal.returns
 unfolding sector_of

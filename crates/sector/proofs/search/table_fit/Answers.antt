@@ -1,17 +1,17 @@
 -- `table_fit` meets its contract: after each step, what leads, what comes second, and how many lead.
-use Rattle.std.proofs.Common.{◌≡◌, ℕ, ◌<◌, ◌≤◌, max, ◌+◌, eqb, get_or, refl, ◌∙◌, subst, ap₂, arith, rules}
+use Rattle.std.proofs.Common.{◌≡◌, ℕ, ◌<◌, ◌≤◌, max, ◌+◌, eqb, get_or, refl, ◌∙◌, subst, ap, arith}
 use Rattle.sector.proofs.Leads.{Leads, leads-none, leads-up, leads-stay, leads-as}
 use Rattle.sector.proofs.Ties.{Tied, tied-none, tied-up, tied-more, tied-stay, tied-le, tied-as}
 use Rattle.sector.proofs.StepSearch.{searched-fit}
 use Rattle.sector.proofs.search.table_fit.Goals as goal
 
 pub loop-step-init : goal.loop-step-init
-loop-step-init c = (search rules, leads-none _, tied-none _)
+loop-step-init c = (leads-none _, tied-none _)
 
 pub overflow_add-tied : goal.overflow_add-tied
 overflow_add-tied c =
     let l = c.loop-step in
-    omega (arith, tied-le _ l.step l.best l.tied l.invariant.2)
+    omega (arith, tied-le _ l.step l.best l.tied l.invariant.1)
 
 -- after one number more, in the values that the branches leave
 module _ (f : ℕ → ℕ) {n place most next : ℕ} (l : Leads f n place most next) (s p r : ℕ) where
@@ -34,10 +34,9 @@ module _ (f : ℕ → ℕ) {n most tied : ℕ} (l : Tied f n most tied) (p t : �
 pub loop-step-preserved : goal.loop-step-preserved
 loop-step-preserved c =
     let f : ℕ → ℕ = λ k. get_or c.args.counts k 0 in
-    let leads = c.loop-step.invariant.1 in
-    let tied = c.loop-step.invariant.2 in
+    let leads = c.loop-step.invariant.0 in
+    let tied = c.loop-step.invariant.1 in
     let to = c.if-peak-best in (
-      omega arith,
       grind (arith, leads-more f leads to.best_step to.best to.runner_up, leads-keep f leads to.best_step to.best to.runner_up),
       grind (arith, tied-anew f tied to.best to.tied, tied-count f tied to.best to.tied, tied-keep f tied to.best to.tied),
     )
@@ -48,10 +47,7 @@ returns c =
     let l = c.loop-step in
     let f : ℕ → ℕ = λ k. get_or a.counts k 0 in
     let e : l.step ≡ 256 = omega arith in
-    ap₂
-    (λ (p n : ℕ). record { step = l.best_step; peak = l.best; runner_up = l.runner_up; exact = eqb p n; tied = l.tied })
-    c.long16.ensures.0
-    c.long.ensures
+    ap (λ (p : ℕ). record { step = l.best_step; peak = l.best; runner_up = l.runner_up; exact = eqb p a.n; tied = l.tied }) c.from.ensures
     ∙ searched-fit a.counts a.n l.best_step l.best l.runner_up l.tied
-    (subst (λ (n : ℕ). Leads f n l.best_step l.best l.runner_up) e l.invariant.1)
-    (subst (λ (n : ℕ). Tied f n l.best l.tied) e l.invariant.2)
+    (subst (λ (n : ℕ). Leads f n l.best_step l.best l.runner_up) e l.invariant.0)
+    (subst (λ (n : ℕ). Tied f n l.best l.tied) e l.invariant.1)

@@ -1,15 +1,17 @@
 -- `slot_table` meets its contract, slot by slot.
-use borrow.Author.Rules.{rules}
-use native.Mathlib.Omega.{arith}
-use Rattle.slotted.proofs.Parses.{table_none, table_more}
+use Rattle.std.proofs.Common.{◌<◌, refl, ◌∙◌, arith}
+use Rattle.lists.specs.Pieces.{each}
+use Rattle.slots.proofs.Slices.{slot-there}
+use Rattle.slotted.proofs.Parses.{table_more}
 use Rattle.slotted.proofs.directories.slot_table.Goals as goal
 
 pub loop-k-init : goal.loop-k-init
-loop-k-init c =
-    let a = c.args in
-    (search rules, table_none a.plain.now a.start c.no_slots-table.result c.no_slots-table.ensures)
+unfolding each
+loop-k-init c = refl
 
 pub loop-k-preserved : goal.loop-k-preserved
 loop-k-preserved c =
     let a = c.args in
-    (search rules, table_more a.plain.now a.start c.loop-k.k c.pair.result c.loop-k.table (omega (arith, c.room_for-room.ensures)) c.pair.ensures c.loop-k.invariant.1)
+    let h : c.loop-k.k < 1024 = omega (arith, c.min.ensures, c.slots_at-slots.ensures.long (omega (arith, c.requires, c.min.ensures))) in
+    table_more a.plain.now a.start c.loop-k.k c.pair_of.result c.loop-k.table h
+    (c.pair_of.ensures.value ∙ slot-there a.plain.now a.start c.min.result c.slots_at-slots.result.now c.loop-k.k _ (c.slots_at-slots.ensures.slots (omega (arith, c.requires, c.min.ensures))) c.loop-k-test.true) c.loop-k.invariant

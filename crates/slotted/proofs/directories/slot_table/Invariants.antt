@@ -1,12 +1,8 @@
 -- `slot_table` meets its contract, slot by slot.
 use mathlib.Core.Path.{◌≡◌}
-use Prim.Native.Nat.{◌-◌, ◌≤◌}
 use Rattle.directory.specs.Directory.{slots_of}
 use Rattle.slotted.specs.Parses.{table_of}
 use Rattle.slotted.proofs.directories.slot_table.Given as goal
 
 abbrev pub invariant-loop-k : goal.invariant-loop-k
-invariant-loop-k l = (l.k ≤ l.room) × (l.table ≡ table_of (slots_of l.plain l.start l.k))
-
-abbrev pub decreases-loop-k : goal.decreases-loop-k
-decreases-loop-k l = l.room - l.k
+invariant-loop-k l = l.table ≡ table_of (slots_of l.plain l.start l.k)

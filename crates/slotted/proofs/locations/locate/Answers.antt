@@ -1,12 +1,10 @@
--- `locate` meets its contract: what is decided, with the number of the page.
-use mathlib.Core.Path.{ap, ◌∙◌}
+-- `locate` meets its contract: what is listed is sound, and few.
+use Rattle.std.proofs.Common.{arith}
 use Rattle.answers.specs.Settings.{directory}
-use Rattle.directory.specs.Decisions.{decision_of}
-use Rattle.slotted.proofs.Locating.{located-is}
+use Rattle.slotted.proofs.Meaning.{located-sound}
 use Rattle.slotted.proofs.locations.locate.Goals as goal
 
-pub returns : goal.returns
-returns c =
+pub returns-clause-sound : goal.returns-clause-sound
+returns-clause-sound c =
     let a = c.args in
-    located-is a.options.search_limit a.number a.plain.now (directory a.options) c.decide-d.result c.answer-answer.result c.given_first-warnings.result
-    (c.decide-d.ensures ∙ ap (decision_of a.options.search_limit a.plain.now) c.directory.ensures) c.answer-answer.ensures c.given_first-warnings.ensures
+    located-sound a.options.search_limit a.number a.plain.now (directory a.options) c.in_ok-d.d (omega (arith, c.type_inv.plain 0xFF0)) c.in_ok-d.ensures.decided

@@ -1,50 +1,35 @@
--- `scan_page` meets its contract: one outcome for each answer, and all eight sectors scanned where it accepts.
-use mathlib.Core.Path.{◌≡◌, ap, ◌∙◌}
-use mathlib.Core.List.{List}
-use lib.ListN.{length}
-use Rattle.answers.specs.declared.kinds.Answer.TheVariants.{Accepted, WrongPageLength, WrongBufferLength}
-use Rattle.sector.specs.declared.fits.Fit.{Fit}
-use Rattle.summary.proofs.Outcomes.{checked-page, checked-room, checked-good, scan-answer, scan-buffer}
+-- `scan_page` meets its contract: a refusal is that of the lengths, and all eight sectors are scanned where both are right.
+use Rattle.std.proofs.Common.{length, Ok, Some, None, ap, ◌∙◌}
+use Rattle.std.proofs.lemmas.Result.{err_from_is_err_and}
+use Rattle.summary.proofs.Outcomes.{checked-sizes, scan-answer, scan-buffer}
 use Rattle.summary.proofs.Rescans.{refitted-all, reshifted-all}
 use Rattle.summary.proofs.pages.scan_page.Goals as goal
 
-pub returns-then-n-ne4096 : goal.returns-then-n-ne4096
-returns-then-n-ne4096 c =
+pub returns-in_err-check_sizes-clause-value : goal.returns-in_err-check_sizes-clause-value
+returns-in_err-check_sizes-clause-value c =
     let a = c.args in
-    let n = length a.stored.now in
-    let m = length a.shifted.now in
-    let w = checked-page n m Accepted c.if-n-ne4096.true in
-    record {
-      value = ap (λ (fs : List Fit). record { answer = WrongPageLength n; fits = fs }) c.blanks-blank.ensures
-          ∙ scan-answer a.number a.stored.now a.shifted.now (WrongPageLength n) w;
-      shifted_after = scan-buffer a.number a.stored.now a.shifted.now (WrongPageLength n) w;
-    }
+    let x = c.in_err-check_sizes in
+    let p = err_from_is_err_and c.from_residual.result c.from_residual.ensures.1 in
+    rw (p.1, p.2) (scan-answer a.number a.stored.now a.shifted.now (Some x.field-0.0) x.ensures)
 
-pub returns-then-m-ne4080 : goal.returns-then-m-ne4080
-returns-then-m-ne4080 c =
+pub returns-in_err-check_sizes-clause-shifted_after : goal.returns-in_err-check_sizes-clause-shifted_after
+returns-in_err-check_sizes-clause-shifted_after c =
     let a = c.args in
-    let n = length a.stored.now in
-    let m = length a.shifted.now in
-    let w = checked-room n m Accepted c.if-n-ne4096.false c.if-m-ne4080.true in
-    record {
-      value = ap (λ (fs : List Fit). record { answer = WrongBufferLength m; fits = fs }) c.blanks-blank.ensures
-          ∙ scan-answer a.number a.stored.now a.shifted.now (WrongBufferLength m) w;
-      shifted_after = scan-buffer a.number a.stored.now a.shifted.now (WrongBufferLength m) w;
-    }
+    let x = c.in_err-check_sizes in
+    scan-buffer a.number a.stored.now a.shifted.now (Some x.field-0.0) x.ensures
 
-pub returns : goal.returns
-returns c =
+pub returns-clause-value : goal.returns-clause-value
+returns-clause-value c =
     let a = c.args in
-    let e : length a.stored.now ≡ 4096 = c.if-n-ne4096.false in
-    let d : length a.shifted.now ≡ 4080 = c.if-m-ne4080.false in
-    let w = checked-good (length a.stored.now) (length a.shifted.now) Accepted e d in
-    let blank = c.blanks-blank in
-    let scan = c.rescan-fits in
-    record {
-      value = ap (λ (fs : List Fit). record { answer = Accepted; fits = fs })
-          (scan.ensures.value ∙ refitted-all a.number a.stored.now blank.result (ap length blank.ensures))
-          ∙ scan-answer a.number a.stored.now a.shifted.now Accepted w;
-      shifted_after = scan.ensures.shifted_after
-          ∙ reshifted-all a.number a.stored.now e a.shifted.now d
-          ∙ scan-buffer a.number a.stored.now a.shifted.now Accepted w;
-    }
+    let blank = c.blanks in
+    ap Ok (c.rescan.ensures.value ∙ refitted-all a.number a.stored.now blank.result (ap length blank.ensures))
+    ∙ scan-answer a.number a.stored.now a.shifted.now None c.in_ok-check_sizes.ensures
+
+pub returns-clause-shifted_after : goal.returns-clause-shifted_after
+returns-clause-shifted_after c =
+    let a = c.args in
+    let w = c.in_ok-check_sizes.ensures in
+    let sizes = checked-sizes (length a.stored.now) (length a.shifted.now) w in
+    c.rescan.ensures.shifted_after
+    ∙ reshifted-all a.number a.stored.now sizes.0 a.shifted.now sizes.1
+    ∙ scan-buffer a.number a.stored.now a.shifted.now None w

@@ -1,11 +1,7 @@
 -- `rescan` meets its contract: after each sector, the fits and the shifted bytes of those that are done.
-use Prim.Native.Nat.{◌-◌, ◌≤◌}
 use Rattle.summary.proofs.Rescans.{Rescanned}
 use Rattle.summary.proofs.rescan.rescan.Given as goal
 
 abbrev pub invariant-loop-done : goal.invariant-loop-done
 invariant-loop-done l =
-    (l.done ≤ l.count) × Rescanned l.number l.stored l.first l.initial.next l.initial.shifted l.done l.next l.shifted
-
-abbrev pub decreases-loop-done : goal.decreases-loop-done
-decreases-loop-done l = l.count - l.done
+    Rescanned l.number l.stored l.first l.initial.next l.initial.shifted l.done l.next l.shifted

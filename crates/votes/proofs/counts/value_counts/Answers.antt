@@ -1,18 +1,19 @@
--- The sums of the quarters' counts are the counts of the page.
-use mathlib.Core.Path.{◌∙◌}
-use Rattle.votes.proofs.Quarters.{quarters-none, tallied-most, sums-count}
-use borrow.Author.Rules.{rules}
+-- From no counts on, those of the page.
+use Rattle.std.proofs.Common.{ℕ, ◌%◌, ◌∙◌, arith}
+use Rattle.std.proofs.lemmas.List.{get_or-replicate}
+use Rattle.lists.specs.Counts.{count}
+use Rattle.lists.proofs.Count.{count-le}
+use Rattle.lists.proofs.Each.{each-ext}
+use Rattle.census.specs.Tables.{held}
+use Rattle.votes.specs.Votes.{counts_of}
 use Rattle.votes.proofs.counts.value_counts.Goals as goal
 
-pub tally_quarters-requires : goal.tally_quarters-requires
-tally_quarters-requires c = record { bytes_len = search rules; quarters = quarters-none _ }
-
-pub sums-requires : goal.sums-requires
-sums-requires c =
-    let q = c.tally_quarters.ensures in
-    (tallied-most _ _ _ _ q.first, tallied-most _ _ _ _ q.second, tallied-most _ _ _ _ q.third, tallied-most _ _ _ _ q.fourth)
-
 pub returns : goal.returns
+unfolding counts_of
 returns c =
+    let bytes = c.args.bytes.now in
     c.sums.ensures
-    ∙ sums-count _ _ _ _ _ (search rules) c.tally_quarters.ensures
+    ∙ each-ext (λ v. held c.add.new.self v % 65536) (λ v. count v bytes) 256
+    (λ v h.
+    omega
+    (arith, c.requires, c.add.ensures (omega (arith, c.requires)) v h, c.after-counts.ensures v h, get_or-replicate {A = ℕ} 256 v 0 0 h, count-le v bytes))

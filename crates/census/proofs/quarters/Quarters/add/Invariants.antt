@@ -1,0 +1,11 @@
+-- `add` meets its contract: i bytes of each quarter are counted in its table.
+use Rattle.std.proofs.Common.{◌*◌}
+use Rattle.census.specs.Tables.{Added}
+use Rattle.census.proofs.quarters.Quarters.add.Given as goal
+
+abbrev pub invariant-loop-i : goal.invariant-loop-i
+invariant-loop-i l =
+    Added l.bytes 0 l.i l.initial.self.a l.self.a
+    × Added l.bytes l.q l.i l.initial.self.b l.self.b
+    × Added l.bytes (2 * l.q) l.i l.initial.self.c l.self.c
+    × Added l.bytes (3 * l.q) l.i l.initial.self.d l.self.d

@@ -1,2 +1,0 @@
--- Laws of the layouts.
-pub mod Sizes
