@@ -32,7 +32,7 @@ pub(crate) fn fill(page: &mut [u8], seed: u64) {
     }
 }
 
-// The parts, each after a blank: where it goes, a colon, and its bytes.
+// The parts, each after a blank: where it goes, a colon, and its bytes. By hand: a turn takes six characters or two.
 pub(crate) fn patch(page: &mut [u8], parts: &[u8]) {
     let mut to: usize = 0;
     let mut rest = parts;

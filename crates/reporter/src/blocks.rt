@@ -9,7 +9,8 @@ ghost use Rattle.reply.specs.Reply.{reply_of};
 use lines::{Next, Step, next_line};
 use reply::{REPLY_MOST, reply_to};
 
-// Answers the lines of a block from `from` on, as far as the output has room, and keeps the unfinished one.
+// Answers the lines of a block from `from` on, as far as the output has room, and keeps the unfinished one. By place: where the next line begins is
+// known when this one has ended.
 pub(crate) fn step(line: &mut [u8], kept: usize, block: &[u8], from: usize, out: &mut [u8]) -> Step
     requires { (line_room ≤ length line.old) × (kept ≤ length line.old) }
     ensures { Stepped reply_of reply_most line.old kept block.now from line.new out.new result }

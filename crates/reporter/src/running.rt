@@ -81,7 +81,7 @@ fn end_input(
     put(rt, &out[..n], sent)
 }
 
-// A block: steps, and what each puts out is written before the next.
+// A block: steps, and what each puts out is written before the next. By place: a step says how far it came.
 fn answer_block(
     rt: &impl Print,
     line: &mut [u8],
