@@ -26,16 +26,29 @@ pub enum Batch {
 static INTERRUPTED: AtomicBool = AtomicBool::new(false);
 
 /// From now on Ctrl-C and the like are looked at between parts, so that nothing is left half done. What whoever started the program had ignored, as
-/// nohup does, stays ignored.
+/// nohup does, stays ignored: it is held back while the handler is set, and what was held back is dropped where it is ignored again.
 pub fn watch_for_interrupts() -> Result<()> {
     let ignored: Vec<i32> = [libc::SIGINT, libc::SIGTERM, libc::SIGHUP].into_iter().filter(|signal| is_ignored(*signal)).collect();
     let noted = || INTERRUPTED.store(true, Ordering::Relaxed);
-    ctrlc::set_handler(noted).map_err(|e| Failure::NotDone(format!("interrupts can't be watched for: {e}")))?;
-    for signal in ignored {
+    mask(libc::SIG_BLOCK, &ignored);
+    let watched = ctrlc::set_handler(noted);
+    for signal in &ignored {
         // SAFETY: to ignore a signal needs no handler that would have to be safe.
-        unsafe { libc::signal(signal, libc::SIG_IGN) };
+        unsafe { libc::signal(*signal, libc::SIG_IGN) };
     }
-    Ok(())
+    mask(libc::SIG_UNBLOCK, &ignored);
+    watched.map_err(|e| Failure::NotDone(format!("interrupts can't be watched for: {e}")))
+}
+
+/// Holds these signals back from this thread and those that it starts, or no longer.
+fn mask(how: i32, signals: &[i32]) {
+    let mut set = MaybeUninit::<libc::sigset_t>::zeroed();
+    // SAFETY: all of it is written to the place lent for it, an empty set first.
+    unsafe {
+        libc::sigemptyset(set.as_mut_ptr());
+        signals.iter().for_each(|signal| _ = libc::sigaddset(set.as_mut_ptr(), *signal));
+        libc::pthread_sigmask(how, set.as_ptr(), std::ptr::null_mut());
+    }
 }
 
 fn is_ignored(signal: i32) -> bool {

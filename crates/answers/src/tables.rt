@@ -32,16 +32,22 @@ impl<T: Copy, const N: usize> Table<T, N> {
         }
     }
 
-    // One value more; a full table stays as it is.
+    // One value more, put where the table stands: a large one is not copied. A full table stays as it is.
+    pub fn add(&mut self, x: T)
+        ensures { self.new ≡ with_item self.old x }
+    {
+        if self.len < N {
+            self.items[self.len] = Some(x);
+            self.len += 1;
+        }
+    }
+
+    // The same of a table by value.
     pub fn with(self, x: T) -> Self
         ensures { result ≡ with_item self x }
     {
-        if N <= self.len {
-            return self;
-        }
         let mut next = self;
-        next.items[self.len] = Some(x);
-        next.len += 1;
+        next.add(x);
         next
     }
 

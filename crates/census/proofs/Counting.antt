@@ -58,6 +58,28 @@ added_more bytes start n before after {x} {table} t one e k h =
         ap (λ (l : List ℕ). get_or l v 0) one ∙ get_or-set_other after x v ((get_or after x 0 + 1) % 65536) 0 ne in
         omega (arith, there, t.at v q, ap (count v) more, count-last-other v (take n (drop start bytes)) x ne)
 
+-- the same of the bytes from `start` up to k
+module _ (bytes : List ℕ) (start : ℕ) where
+  pub past_none : (table : List ℕ) → length table ≡ 256 → Added bytes start (start - start) table table
+  past_none table e = record { long = e; at = λ v h. omega (arith, ap (λ (n : ℕ). count v (take n (drop start bytes))) none, count_none v) }
+    where
+      none : start - start ≡ 0
+      none = omega arith
+
+  pub past_more :
+      (k : ℕ) (before after : List ℕ) {x : ℕ} {table : List ℕ}
+      → start ≤ k
+      → Added bytes start (k - start) before after
+      → table ≡ with_one after x
+      → x ≡ get_or bytes k 0
+      → x < 256
+      → k < length bytes
+      → Added bytes start (k + 1 - start) before table
+  past_more k before after s t one e b h =
+      let here : k - start + start ≡ k = omega (arith, s) in
+      let next : k - start + 1 ≡ k + 1 - start = omega (arith, s) in
+      rw (← next) (added_more bytes start (k - start) before after t one (e ∙ sym (ap (λ (i : ℕ). get_or bytes i 0) here)) b (omega (arith, s, h)))
+
 -- ---- a value's count is the sum of its counts in the quarters
 
 module _ (v : ℕ) where
@@ -66,12 +88,13 @@ module _ (v : ℕ) where
 
   count-quarters :
       (q : ℕ) (l : List ℕ)
-      → 4 * q ≡ length l
-      → count v l ≡ count v (take q l) + count v (take q (drop q l)) + (count v (take q (drop (2 * q) l)) + count v (take q (drop (3 * q) l)))
-  count-quarters q l e =
-      let last : take q (drop (3 * q) l) ≡ drop (3 * q) l = take_all q (drop (3 * q) l) (omega (arith, length-drop (3 * q) l)) in
+      → count v l
+      ≡ count v (take q l) + count v (take q (drop q l)) + (count v (take q (drop (2 * q) l)) + count v (take q (drop (3 * q) l)))
+      + count v (drop (4 * q) l)
+  count-quarters q l =
       let two : q + q ≡ 2 * q = omega arith in
       let three : 2 * q + q ≡ 3 * q = omega arith in
+      let four : 3 * q + q ≡ 4 * q = omega arith in
       omega (
         arith,
         count-halves v q l,
@@ -79,21 +102,44 @@ module _ (v : ℕ) where
         ap (λ (n : ℕ). count v (drop n l)) two,
         rest l (2 * q) q,
         ap (λ (n : ℕ). count v (drop n l)) three,
-        ap (count v) last,
+        rest l (3 * q) q,
+        ap (λ (n : ℕ). count v (drop n l)) four,
       )
 
+-- n bytes of each quarter, and m behind the four
 pub quarters-count :
-    (bytes : List ℕ) (q : ℕ) {n : ℕ} {t u : Quarters}
-    → 4 * q ≡ length bytes
+    (bytes : List ℕ) (q : ℕ) {n m : ℕ} {t u w : Quarters}
     → n ≡ q
+    → m ≡ length bytes - 4 * q
     → Added bytes 0 n t.a u.a × Added bytes q n t.b u.b × Added bytes (2 * q) n t.c u.c × Added bytes (3 * q) n t.d u.d
+    → w.a ≡ u.a
+    → w.b ≡ u.b
+    → w.c ≡ u.c
+    → Added bytes (4 * q) m u.d w.d
     → (v : ℕ)
     → v < 256
-    → held u v % 65536 ≡ (held t v + count v bytes) % 65536
-quarters-count bytes q {n} {t} {u} e whole added v h =
+    → held w v % 65536 ≡ (held t v + count v bytes) % 65536
+quarters-count bytes q {n} {m} {t} {u} {w} whole left added a b c last v h =
     let at : (start : ℕ) → count v (take n (drop start bytes)) ≡ count v (take q (drop start bytes)) =
     λ start. ap (λ (n : ℕ). count v (take n (drop start bytes))) whole in
-    omega (arith, count-quarters v q bytes e, added.0.at v h, added.1.at v h, added.2.at v h, added.3.at v h, at 0, at q, at (2 * q), at (3 * q))
+    let rest : take m (drop (4 * q) bytes) ≡ drop (4 * q) bytes = take_all m (drop (4 * q) bytes) (omega (arith, left, length-drop (4 * q) bytes)) in
+    omega (
+      arith,
+      count-quarters v q bytes,
+      added.0.at v h,
+      added.1.at v h,
+      added.2.at v h,
+      added.3.at v h,
+      at 0,
+      at q,
+      at (2 * q),
+      at (3 * q),
+      ap (λ (l : List ℕ). byte_at l v) a,
+      ap (λ (l : List ℕ). byte_at l v) b,
+      ap (λ (l : List ℕ). byte_at l v) c,
+      last.at v h,
+      ap (count v) rest,
+    )
 
 -- ---- the bytes of a sector as the code takes them
 

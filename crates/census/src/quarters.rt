@@ -28,9 +28,9 @@ impl Quarters {
         }
     }
 
-    // One more byte of each quarter at a time, where there are four quarters of one length.
+    // One more byte of each quarter at a time, then what four quarters of one length leave over.
     pub fn add(&mut self, bytes: &[u8])
-        ensures { length bytes.now % 4 ≡ 0 → (v : ℕ) → v < 256 → held self.new v % 65536 ≡ (held self.old v + count v bytes.now) % 65536 }
+        ensures { (v : ℕ) → v < 256 → held self.new v % 65536 ≡ (held self.old v + count v bytes.now) % 65536 }
     {
         let q = bytes.len() / 4;
         for i in 0..q {
@@ -38,6 +38,9 @@ impl Quarters {
             note(&mut self.b, bytes[i + q]);
             note(&mut self.c, bytes[i + 2 * q]);
             note(&mut self.d, bytes[i + 3 * q]);
+        }
+        for k in 4 * q..bytes.len() {
+            note(&mut self.d, bytes[k]);
         }
     }
 

@@ -74,38 +74,37 @@ module _ (stored : List ℕ) (m k lim : ℕ) where
   unfolding early_of
   early-refused x e = rw (← e)
 
-  pub early-zeros : None ≡ entry_answer (length stored) m k lim → is_unallocated stored ≡ true → Ok (Some unallocated_of) ≡ early_of stored m k lim
+  pub early-zeros : None ≡ entry_answer (length stored) m k lim → is_unallocated stored ≡ true → Ok true ≡ early_of stored m k lim
   unfolding early_of
   early-zeros e z = rw (← e, z)
 
-  pub early-none : None ≡ entry_answer (length stored) m k lim → is_unallocated stored ≡ false → Ok None ≡ early_of stored m k lim
+  pub early-none : None ≡ entry_answer (length stored) m k lim → is_unallocated stored ≡ false → Ok false ≡ early_of stored m k lim
   unfolding early_of
   early-none e z = rw (← e, z)
 
-  -- the lengths and the limit are right, and the page was written
-  pub record IsLeft : Type 0 where
+  -- the lengths and the limit are right, and zeros says whether the page is unallocated
+  pub record IsLeft (zeros : Bool) : Type 0 where
     pub accepted : None ≡ entry_answer (length stored) m k lim
-    pub written : is_unallocated stored ≡ false
+    pub seen : is_unallocated stored ≡ zeros
 
-  pub early-left : (y : Option Decoding) → Ok y ≡ early_of stored m k lim → y ≡ None → IsLeft
+  pub early-left : (y : Bool) → Ok y ≡ early_of stored m k lim → IsLeft y
   unfolding early_of
-  early-left y h e = go (entry_answer (length stored) m k lim) refl (is_unallocated stored) refl (sym (ap (λ (z : Option Decoding). Ok z) e) ∙ h)
+  early-left y h = go (entry_answer (length stored) m k lim) refl h
     where
-      go : (x : Answer) → entry_answer (length stored) m k lim ≡ x → (b : Bool) → is_unallocated stored ≡ b → Ok None ≡ early_by x b → IsLeft
-      go None p false q f = record { accepted = sym p; written = q }
-      go None p true q f = absurd cc
-      go (Some x) p b q f = absurd cc
+      go : (x : Answer) → entry_answer (length stored) m k lim ≡ x → Ok y ≡ early_by x (is_unallocated stored) → IsLeft y
+      go None p f = record { accepted = sym p; seen = cc }
+      go (Some x) p f = absurd cc
 
   -- so that the lengths are right
-  module _ (y : Option Decoding) (h : Ok y ≡ early_of stored m k lim) (e : y ≡ None) where
+  module _ (y : Bool) (h : Ok y ≡ early_of stored m k lim) where
     pub left-stored : length stored ≡ 4096
-    left-stored = (entry-right _ _ _ _ (early-left y h e).accepted).0
+    left-stored = (entry-right _ _ _ _ (early-left y h).accepted).0
 
     pub left-out : m ≡ 4096
-    left-out = (entry-right _ _ _ _ (early-left y h e).accepted).1
+    left-out = (entry-right _ _ _ _ (early-left y h).accepted).1
 
     pub left-shifted : k ≡ 4080
-    left-shifted = (entry-right _ _ _ _ (early-left y h e).accepted).2
+    left-shifted = (entry-right _ _ _ _ (early-left y h).accepted).2
 
 pub ruleset entering = (entry-right, early-refused, early-zeros, early-none)
 
@@ -123,48 +122,39 @@ module _ (w : Result Decoding Refused) (stored xs : List ℕ) (m lim : ℕ) wher
   checked-refused x = go (entry_answer (length stored) m (length xs) lim) (is_unallocated stored)
     where
       go : (y : Answer) (b : Bool) → Err x ≡ early_by y b → unless_refused y (pick b (Ok unallocated_of) w) ≡ Err (refusal x)
-      go None true f = absurd cc
-      go None false f = absurd cc
+      go None b f = absurd cc
       go (Some y) b f = cc
 
-  pub checked-zeros : (y : Option Decoding) (d : Decoding) → Ok y ≡ early_of stored m (length xs) lim → y ≡ Some d → entry_checked stored xs m lim w ≡ Ok d
-  unfolding early_of entry_checked
-  checked-zeros y d h e = go (entry_answer (length stored) m (length xs) lim) (is_unallocated stored) (sym (ap (λ (z : Option Decoding). Ok z) e) ∙ h)
-    where
-      go : (y : Answer) (b : Bool) → Ok (Some d) ≡ early_by y b → unless_refused y (pick b (Ok unallocated_of) w) ≡ Ok d
-      go None true f = cc
-      go None false f = absurd cc
-      go (Some y) b f = absurd cc
+  module _ (y : Bool) (h : Ok y ≡ early_of stored m (length xs) lim) where
+    pub checked-zeros : y ≡ true → entry_checked stored xs m lim w ≡ Ok unallocated_of
+    unfolding entry_checked
+    checked-zeros e =
+        let l = early-left stored m (length xs) lim y h in
+        rw (← l.accepted, l.seen ∙ e)
 
-  pub checked-page : (y : Option Decoding) → Ok y ≡ early_of stored m (length xs) lim → y ≡ None → entry_checked stored xs m lim w ≡ w
-  unfolding entry_checked
-  checked-page y h e =
-      let l = early-left stored m (length xs) lim y h e in
-      rw (← l.accepted, l.written)
+    pub checked-page : y ≡ false → entry_checked stored xs m lim w ≡ w
+    unfolding entry_checked
+    checked-page e =
+        let l = early-left stored m (length xs) lim y h in
+        rw (← l.accepted, l.seen ∙ e)
 
-module _ (stored : List ℕ) (m k lim : ℕ) (y : Option Decoding) (h : Ok y ≡ early_of stored m k lim) where
-  pub zeros-here : (d : Decoding) → y ≡ Some d → is_unallocated stored ≡ true
-  unfolding early_of
-  zeros-here d e = go (entry_answer (length stored) m k lim) (is_unallocated stored) (sym (ap (λ (z : Option Decoding). Ok z) e) ∙ h)
-    where
-      go : (y : Answer) (b : Bool) → Ok (Some d) ≡ early_by y b → b ≡ true
-      go None true f = refl
-      go None false f = absurd cc
-      go (Some y) b f = absurd cc
+module _ (stored : List ℕ) (m k lim : ℕ) (y : Bool) (h : Ok y ≡ early_of stored m k lim) where
+  pub zeros-here : y ≡ true → is_unallocated stored ≡ true
+  zeros-here e = (early-left stored m k lim y h).seen ∙ e
 
-  pub written-here : y ≡ None → is_unallocated stored ≡ false
-  written-here e = (early-left stored m k lim y h e).written
+  pub written-here : y ≡ false → is_unallocated stored ≡ false
+  written-here e = (early-left stored m k lim y h).seen ∙ e
 
 -- by its own scan
 module _ (number : ℕ) (stored : List ℕ) (w : Result Decoding Refused) (m lim : ℕ) where
   pub own-refused : (x : Refusal) → Err x ≡ early_of stored m 4080 lim → entry_checked stored (bytes_of number stored) m lim w ≡ Err (refusal x)
   own-refused x h = checked-refused w stored (bytes_of number stored) m lim x (h ∙ own-early number m lim stored)
 
-  module _ (y : Option Decoding) (h : Ok y ≡ early_of stored m 4080 lim) where
-    pub own-zeros : (d : Decoding) → y ≡ Some d → entry_checked stored (bytes_of number stored) m lim w ≡ Ok d
-    own-zeros d e = checked-zeros w stored (bytes_of number stored) m lim y d (h ∙ own-early number m lim stored) e
+  module _ (y : Bool) (h : Ok y ≡ early_of stored m 4080 lim) where
+    pub own-zeros : y ≡ true → entry_checked stored (bytes_of number stored) m lim w ≡ Ok unallocated_of
+    own-zeros e = checked-zeros w stored (bytes_of number stored) m lim y (h ∙ own-early number m lim stored) e
 
-    pub own-page : y ≡ None → entry_checked stored (bytes_of number stored) m lim w ≡ w
+    pub own-page : y ≡ false → entry_checked stored (bytes_of number stored) m lim w ≡ w
     own-page e = checked-page w stored (bytes_of number stored) m lim y (h ∙ own-early number m lim stored) e
 
 -- what is scanned into room of the right length is the page's own summary

@@ -1,6 +1,6 @@
 -- Document 01, "Answer numbers" and "Summary and replacement", and request #109: a decoding, in the order 1, 2, 20, unallocated, and then what is
 -- decided of a written page; and what it writes. `stored` is the stored page, `fits` and `shifted` its summary, m the length of out. Assumes nothing.
-use Rattle.std.specs.Prelude.{ℕ, Bool, List, ◌++◌, length, drop, ◌==◌, Option, Some, None, Result, Ok, Err}
+use Rattle.std.specs.Prelude.{ℕ, Bool, List, ◌++◌, length, drop, ◌==◌, Some, None, Result, Ok, Err}
 use Rattle.lists.specs.Cases.{pick}
 use Rattle.lists.specs.Bytes.{plain_of}
 use Rattle.answers.specs.Answers.{Answer}
@@ -32,18 +32,17 @@ unfoldable pub entry_checked : List ℕ → List ℕ → ℕ → ℕ → Result 
 entry_checked stored shifted m lim d =
     unless_refused (entry_answer (length stored) m (length shifted) lim) (pick (is_unallocated stored) (Ok unallocated_of) d)
 
--- what is answered before anything is decided: a refusal by lengths and limit, or an unallocated page
-abbrev pub early_by : Answer → Bool → Result (Option Decoding) Refusal
-early_by None zeros = pick zeros (Ok (Some unallocated_of)) (Ok None)
+-- private: what is answered before anything is decided. A refusal by lengths and limit, or whether the page is unallocated
+abbrev pub early_by : Answer → Bool → Result Bool Refusal
+early_by None zeros = Ok zeros
 early_by (Some x) zeros = Err x
 
-unfoldable pub early_of : List ℕ → ℕ → ℕ → ℕ → Result (Option Decoding) Refusal
+unfoldable pub early_of : List ℕ → ℕ → ℕ → ℕ → Result Bool Refusal
 early_of stored m k lim = early_by (entry_answer (length stored) m k lim) (is_unallocated stored)
 
--- and what out holds then: the zeros of that page
-abbrev pub early_written : Result (Option Decoding) Refusal → List ℕ → List ℕ → List ℕ
-early_written (Ok (Some d)) stored out = stored
-early_written (Ok None) stored out = out
+-- private: and what out holds then, the zeros of that page
+abbrev pub early_written : Result Bool Refusal → List ℕ → List ℕ → List ℕ
+early_written (Ok zeros) stored out = pick zeros stored out
 early_written (Err x) stored out = out
 
 -- a decoding from a summary
@@ -67,6 +66,11 @@ plain_page bv shifted stored = plain_of bv shifted ++ drop 4080 stored
 unfoldable pub written_of : Result Decoding Refused → List ℕ → List ℕ → List ℕ → List ℕ
 written_of (Ok d) stored shifted out = pick (is_unallocated stored) stored (plain_page d.choice.bv shifted stored)
 written_of (Err e) stored shifted out = out
+
+-- private: the same of a page that was written
+abbrev pub delivered_of : Result Decoding Refused → List ℕ → List ℕ → List ℕ → List ℕ
+delivered_of (Ok d) stored shifted out = plain_page d.choice.bv shifted stored
+delivered_of (Err e) stored shifted out = out
 
 -- by its own scan: from the page's own summary
 abbrev pub own_decoding : ℕ → List ℕ → List ℕ → Options → ℕ → Result Decoding Refused

@@ -4,25 +4,24 @@ ghost use Rattle.answers.specs.Answers.{answer_in};
 ghost use Rattle.decode.specs.Decode.{entry_answer, early_of, early_written};
 
 use answers::{Options, Refusal};
-use verdict::Decoding;
 
-// What is answered before anything is decided: a refusal, or a page that was never written, whose zeros are copied.
+// What is answered before anything is decided: a refusal, or whether the page was never written; its zeros are copied then.
 #[tactic(auto, using(crate::proofs::EntryCases::entering))]
 pub(crate) fn early(
     stored: &[u8],
     shifted: usize,
     limit: usize,
     out: &mut [u8],
-) -> Result<Option<Decoding>, Refusal>
+) -> Result<bool, Refusal>
     ensures answer { result ≡ early_of stored.now (length out.old) shifted limit }
     ensures written { out.new ≡ early_written result stored.now out.old }
 {
     check_entry(stored.len(), out.len(), shifted, limit)?;
-    if page::is_unallocated(stored) {
-        out.copy_from_slice(stored);
-        return Ok(Some(verdict::unallocated()));
+    let zeros = page::is_unallocated(stored);
+    if zeros {
+        numbers::copy(stored, out);
     }
-    Ok(None)
+    Ok(zeros)
 }
 
 // The lengths of the stored page, of `out` and of the shifted bytes, then the search limit: the first that is wrong refuses.

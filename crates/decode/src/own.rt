@@ -1,10 +1,14 @@
 // The decoding of a stored page by its own scan: that from a summary, at what the scan finds.
 ghost use Rattle.std.specs.Prelude.{◌≡◌, length};
-ghost use Rattle.decode.specs.Decode.{own_decoding, own_supplied, own_written};
+ghost use Rattle.answers.specs.Answers.{answer_in};
+ghost use Rattle.page.specs.Trailer.{row_count_of};
+ghost use Rattle.summary.specs.Page.{fits_of, bytes_of};
+ghost use Rattle.verdict.specs.Verdict.{verdict_by, supplied_verdict};
+ghost use Rattle.decode.specs.Decode.{own_decoding, own_supplied, own_written, delivered_of};
 
 use crate::entries::early;
 use crate::plaintext::deliver;
-use answers::Options;
+use answers::{Options, Refusal};
 use choice::Refused;
 use verdict::Decoding;
 
@@ -19,11 +23,45 @@ pub fn decode_page(
     ensures { (result ≡ own_decoding number stored.now anchors.now options (length out.old))
         × (out.new ≡ own_written number result stored.now out.old) }
 {
-    if let Some(decoding) = early(stored, 4080, options.search_limit, out)? {
-        return Ok(decoding);
+    if early(stored, 4080, options.search_limit, out)? {
+        return Ok(verdict::unallocated());
     }
     let found = page::check_written(number, stored);
     verdict::let_through(found, options)?;
+    decode_written(number, found, stored, anchors, options, out)
+}
+
+#[tactic(auto, using(crate::proofs::EntryCases::owning), unfolding(crate::specs::Decode::written_of, crate::specs::Decode::supplied_decoding_of))]
+pub fn decode_with_bv(
+    number: u64,
+    bv: u8,
+    stored: &[u8],
+    options: Options,
+    out: &mut [u8],
+) -> Result<Decoding, Refused>
+    ensures { (result ≡ own_supplied number bv stored.now options (length out.old))
+        × (out.new ≡ own_written number result stored.now out.old) }
+{
+    if early(stored, 4080, options.search_limit, out)? {
+        return Ok(verdict::unallocated());
+    }
+    supply_written(number, bv, stored, options, out)
+}
+
+// A page that was written. Apart from what is answered early, as is the next: room for the shifted bytes is made as the function begins.
+#[tactic(auto, using(crate::proofs::EntryCases::owning))]
+fn decode_written(
+    number: u64,
+    found: Result<(), Refusal>,
+    stored: &[u8],
+    anchors: &[u8],
+    options: Options,
+    out: &mut [u8],
+) -> Result<Decoding, Refused>
+    requires { (length stored.now ≡ 4096) × (length out.old ≡ 4096) }
+    ensures decided { result ≡ verdict_by number (answer_in found) (row_count_of stored.now) (fits_of number stored.now) (bytes_of number stored.now) anchors.now options }
+    ensures delivered { out.new ≡ delivered_of result stored.now (bytes_of number stored.now) out.old }
+{
     let mut shifted = room();
     let fits = summary::scan_page(number, stored, &mut shifted)?;
     let decoding = verdict::decide(
@@ -39,20 +77,18 @@ pub fn decode_page(
     Ok(decoding)
 }
 
-#[tactic(auto, using(crate::proofs::EntryCases::owning), unfolding(crate::specs::Decode::written_of, crate::specs::Decode::supplied_decoding_of))]
-pub fn decode_with_bv(
+#[tactic(auto, using(crate::proofs::EntryCases::owning))]
+fn supply_written(
     number: u64,
     bv: u8,
     stored: &[u8],
     options: Options,
     out: &mut [u8],
 ) -> Result<Decoding, Refused>
-    ensures { (result ≡ own_supplied number bv stored.now options (length out.old))
-        × (out.new ≡ own_written number result stored.now out.old) }
+    requires { (length stored.now ≡ 4096) × (length out.old ≡ 4096) }
+    ensures decided { result ≡ supplied_verdict number bv (row_count_of stored.now) (fits_of number stored.now) (bytes_of number stored.now) options }
+    ensures delivered { out.new ≡ delivered_of result stored.now (bytes_of number stored.now) out.old }
 {
-    if let Some(decoding) = early(stored, 4080, options.search_limit, out)? {
-        return Ok(decoding);
-    }
     let mut shifted = room();
     let fits = summary::scan_page(number, stored, &mut shifted)?;
     let decoding = verdict::decide_supplied(number, bv, stored[0xFF0], fits, &shifted, options)?;

@@ -9,7 +9,7 @@ pub(crate) fn deliver(bv: u8, stored: &[u8], shifted: &[u8], out: &mut [u8])
     ensures { out.new ≡ plain_page bv shifted.now stored.now }
 {
     unshift(shifted, bv, &mut out[0..4080]);
-    out[4080..].copy_from_slice(&stored[4080..]);
+    numbers::copy(&stored[4080..], &mut out[4080..]);
 }
 
 // The plain bytes of shifted ones.

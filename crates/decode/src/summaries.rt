@@ -23,8 +23,8 @@ pub fn decode_summary(
     ensures { (result ≡ decoding_into number stored.now fits shifted.now anchors.now options out.old)
         × (out.new ≡ written_of result stored.now shifted.now out.old) }
 {
-    if let Some(decoding) = early(stored, shifted.len(), options.search_limit, out)? {
-        return Ok(decoding);
+    if early(stored, shifted.len(), options.search_limit, out)? {
+        return Ok(verdict::unallocated());
     }
     let found = page::check_written(number, stored);
     let decoding = verdict::decide(
@@ -54,8 +54,8 @@ pub fn decode_summary_with_bv(
     ensures { (result ≡ supplied_decoding_of number bv stored.now fits shifted.now options (length out.old))
         × (out.new ≡ written_of result stored.now shifted.now out.old) }
 {
-    if let Some(decoding) = early(stored, shifted.len(), options.search_limit, out)? {
-        return Ok(decoding);
+    if early(stored, shifted.len(), options.search_limit, out)? {
+        return Ok(verdict::unallocated());
     }
     let decoding = verdict::decide_supplied(number, bv, stored[0xFF0], fits, shifted, options)?;
     deliver(decoding.choice.bv, stored, shifted, out);

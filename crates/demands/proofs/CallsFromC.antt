@@ -3,7 +3,7 @@ use Prim.Native.Nat.{ℕ, ◌+◌, ◌≤◌, ◌<◌}
 use mathlib.Core.Path.{◌≡◌, refl, sym, ap, ◌∙◌, subst}
 use mathlib.Core.Bool.{Bool, true, false, ◌&&◌, and-true}
 use mathlib.Core.List.{List, [], ◌∷◌, ◌++◌, append_assoc, append-nil}
-use Rattle.std.specs.Prelude.{Some, None, Result, Ok, Err, is_some, unwrap_or}
+use Rattle.std.specs.Prelude.{Option, Some, None, Result, Ok, Err, is_some, unwrap_or}
 use Rattle.std.specs.Result.{result_ok, result_unwrap_or}
 use native.Mathlib.Omega.{arith}
 use borrow.Author.Tests.{leb-true, leb-false}
@@ -29,7 +29,6 @@ use Rattle.summary.specs.Replace.{replace_answer, replaced, stored_after, shifte
 use Rattle.slotted.specs.Parses.{parsed_of}
 use Rattle.slotted.specs.declared.directories.SlotDirectory.{SlotDirectory}
 use Rattle.slotted.specs.declared.directories.Parsed.{Parsed}
-use Rattle.rows.specs.RowAnswers.{row_found_of, rows_counted_of}
 use Rattle.rows.specs.declared.spans.Span.{Span}
 use Rattle.choice.specs.declared.Refused.{Refused}
 use Rattle.choice.specs.Rules.{refused_answer}
@@ -136,7 +135,7 @@ told-starts :
     {A : Type 0} (fields : A → List Field) (w n : ℕ) (r : Result A Refusal)
     → size_of (told_fields fields w r) ≡ n
     → StartsWith n (answer_in r) (told_fields fields w r)
-told-starts fields w n r h = record { rest = place_fields fields w (result_ok r); front = refl; size = h }
+told-starts fields w n r h = record { rest = place_fields fields (little w 0 ∷ []) (result_ok r); front = refl; size = h }
 
 trailer-starts : (t : Result PageTrailer Refusal) → StartsWith trailer_size (answer_in t) (trailer_fields t)
 trailer-starts t = told-starts record_fields record_size trailer_size t (told-size record_fields record_size record-size t)
@@ -172,13 +171,13 @@ parse-starts p =
       size = parse-size p;
     }
 
-row-count-starts : (n : Result ℕ Refusal) → StartsWith row_count_size (answer_in n) (row_count_fields n)
+row-count-starts : (x : Answer) (n : ℕ) → StartsWith row_count_size x (row_count_fields x n)
 unfolding row_count_fields
-row-count-starts n = record { rest = _; front = refl; size = row-count-size n }
+row-count-starts x n = record { rest = _; front = refl; size = row-count-size x n }
 
-row-starts : (s : Result Span Refusal) → StartsWith row_size (answer_in s) (row_fields s)
+row-starts : (x : Answer) (s : Option Span) → StartsWith row_size x (row_fields x s)
 unfolding row_fields
-row-starts s = record { rest = _; front = refl; size = row-size s }
+row-starts x s = record { rest = _; front = refl; size = row-size x s }
 
 rows-starts : (x : Answer) (rows : List ℕ) → StartsWith rows_size x (rows_fields x rows)
 unfolding rows_fields
@@ -257,7 +256,7 @@ row-count-told :
 row-count-told number plain leniency limit answer answer_at_exit r w =
     subst (λ (x : Answer). ToldInC true row_count_size x answer answer_at_exit r)
     (counted_answer limit number plain (parsed_of limit number plain (has_directory leniency)) _)
-    (tells-lent (row-count-starts (rows_counted_of limit number plain (has_directory leniency))) answer answer_at_exit r w)
+    (tells-lent (row-count-starts _ _) answer answer_at_exit r w)
 
 pub calls-answered : CallsAnswered
 calls-answered =
@@ -271,6 +270,6 @@ calls-answered =
       decoding = decoding-told;
       parse = λ number plain leniency limit. tells-lent (parse-starts (parsed_of limit number plain (has_directory leniency)));
       row_count = row-count-told;
-      row = λ number plain leniency limit k. tells-lent (row-starts (row_found_of limit number plain (has_directory leniency) k));
+      row = λ number plain leniency limit k. tells-lent (row-starts _ _);
       rows = λ number plain leniency limit. tells-lent (rows-starts _ _);
     }

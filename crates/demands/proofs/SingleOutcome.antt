@@ -1,9 +1,11 @@
 -- Contracts admit a single outcome, proved. Assumes nothing.
 use Prim.Native.Nat.{ℕ}
-use mathlib.Core.Path.{◌≡◌, sym, ap, ◌∙◌}
+use mathlib.Core.Path.{◌≡◌, refl, sym, ap, ◌∙◌}
 use mathlib.Core.List.{List}
 use denote.Ref.{Bor}
-use Rattle.std.specs.Prelude.{Option}
+use Rattle.std.specs.Prelude.{Option, Result, Ok, Err}
+use Rattle.answers.specs.Answers.{answer_in}
+use Rattle.answers.specs.declared.kinds.Refusal.{Refusal}
 use Rattle.rows.specs.Rows.{IsPart}
 use Rattle.rows.specs.declared.spans.Span.{Span}
 use Rattle.demands.specs.SingleOutcome.{SamePart, SingleOutcome}
@@ -12,6 +14,13 @@ use Rattle.demands.specs.SingleOutcome.{SamePart, SingleOutcome}
 both : {A : Type 0} {x y z : A} → x ≡ z → y ≡ z → x ≡ y
 both p q = p ∙ sym q
 
+-- two answers with nothing beside them
+alike : (r s : Result (Unit {0}) Refusal) → answer_in r ≡ answer_in s → r ≡ s
+alike (Ok u) (Ok v) e = refl
+alike (Ok u) (Err x) e = cc
+alike (Err x) (Ok v) e = cc
+alike (Err x) (Err y) e = cc
+
 same-part : (s : Bor (List ℕ)) (a : Option Span) (p q : Bor (List ℕ)) → IsPart s p a → IsPart s q a → SamePart p q
 same-part s a p q g h = record { place = both g.place h.place; bytes = both g.bytes h.bytes }
 
@@ -19,6 +28,7 @@ pub single-outcome : SingleOutcome
 single-outcome =
     record {
       result = λ x r s p q. both p q;
+      answered = λ x r s p q. alike r s (both p q);
       result-bytes = λ x f r s p q. let e = both p.0 q.0 in λ i. (e i, (p.1 ∙ ap f e ∙ sym q.1) i);
       replacement = λ number s new stored shifted fits x y p q. λ i. (both p.0 q.0 i, both p.1 q.1 i, both p.2 q.2 i);
       put = λ l at fs x y p q. λ i. (both p.bytes q.bytes i, both p.place q.place i);

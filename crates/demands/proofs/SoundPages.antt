@@ -24,6 +24,7 @@ use Rattle.choice.specs.declared.Refused.{Refused}
 use Rattle.choice.specs.Rules.{choice_of}
 use Rattle.verdict.specs.Sectors.{entry, first_weak, sector_warnings}
 use Rattle.verdict.specs.Verdict.{warning_noted, sectors_decide, settled_of, verdict_by, verdict_of}
+use Rattle.verdict.proofs.DecisionCases.{settled-lenient}
 use Rattle.decode.specs.Decode.{entry_answer, entry_checked, decoding_of}
 use Rattle.demands.specs.Demand2.{read_page}
 use Rattle.demands.specs.Accepted.{GoodPage, Confident}
@@ -82,23 +83,11 @@ module _ (number : ℕ) (stored anchors : List ℕ) (o : Options) (sound : GoodP
         ∙ settled-sure number (fits_of number stored) sure (keystream o) x empty
         ∙ ap (λ (w : Warnings). Ok (record { choice = x; fits = fits_of number stored; warnings = w })) noted-none
 
-    settled-lenient :
-        (lenient : Bool)
-        → lenient ≡ true
-        → settled_of number lenient (fits_of number stored) (Ok x) empty
-        ≡ Ok (record {
-          choice = x;
-          fits = fits_of number stored;
-          warnings = sector_warnings number (fits_of number stored) (warning_noted number x.warned empty) 8;
-        })
-    unfolding settled_of sectors_decide
-    settled-lenient lenient l = rw l
-
     pub page-lenient :
         keystream o ≡ true
         → read_page number stored anchors o 4096
         ≡ Ok (record { choice = x; fits = fits_of number stored; warnings = sector_warnings number (fits_of number stored) empty 8 })
     page-lenient l =
         settled-good
-        ∙ settled-lenient (keystream o) l
+        ∙ settled-lenient number (keystream o) (fits_of number stored) (Ok x) empty x refl l
         ∙ ap (λ (w : Warnings). Ok (record { choice = x; fits = fits_of number stored; warnings = sector_warnings number (fits_of number stored) w 8 })) noted-none

@@ -1,7 +1,8 @@
 -- "Each public contract settles result and lent bytes on all inputs; show that it admits a single outcome": for each form that a contract takes, two
--- outcomes that meet it are the same. The one exception, `reporter::run`, is in docs/DECISIONS.md. Assumes nothing.
+-- outcomes that meet it are the same. The exceptions are in docs/DECISIONS.md. Assumes nothing.
 use Rattle.std.specs.Prelude.{ℕ, ◌≡◌, Bool, Option, Result, List}
 use Rattle.std.specs.Borrow.{Bor}
+use Rattle.answers.specs.Answers.{Answer, answer_in}
 use Rattle.answers.specs.declared.kinds.Refusal.{Refusal}
 use Rattle.sector.specs.declared.fits.Fit.{Fit}
 use Rattle.summary.specs.Replace.{Renews}
@@ -32,6 +33,8 @@ pub record SameRow (v w : Row) : Type 0 where
 pub record SingleOutcome : Type 1 where
   -- a result, or the bytes of a buffer; both, where the bytes may depend on the result
   pub result : {A : Type 0} (x : A) → Single (λ (r : A). r ≡ x)
+  -- an answer with nothing beside it where it accepts: `check_integrity`, `check_written`, `parse_answer`, `row_answer`, `let_through`
+  pub answered : (x : Answer) → Single (λ (r : Result (Unit {0}) Refusal). answer_in r ≡ x)
   pub result-bytes : {A : Type 0} (x : A) (f : A → List ℕ) → Single (λ (o : A × List ℕ). (o.0 ≡ x) × (o.1 ≡ f o.0))
   -- `replace_sector`: its result, the stored page and the shifted bytes
   pub replacement :

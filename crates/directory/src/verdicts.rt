@@ -1,5 +1,5 @@
 // What the parse decides, in small values: a refusal, or a directory and at most three warnings. The page number plays no part but in a refusal.
-ghost use Rattle.std.specs.Prelude.{◌≡◌, ◌+◌, ◌*◌, ◌<◌, ◌≤◌, Some, Ok, IfSome, IfOk, length, map, not, reverse, unwrap_or, option_map, ◌==◌};
+ghost use Rattle.std.specs.Prelude.{◌≡◌, [], ◌+◌, ◌*◌, ◌<◌, ◌≤◌, Some, Ok, IfSome, IfOk, length, map, not, reverse, unwrap_or, option_map, ◌==◌};
 ghost use Rattle.std.specs.List.{find};
 ghost use Rattle.lists.specs.Pieces.{keep};
 ghost use Rattle.slots.specs.Slots.{slot_value, scanned_directory};
@@ -318,6 +318,7 @@ fn check_inside(plain: &[u8], lenient: bool, d: Decided) -> Result<Decided, Unli
 pub fn slots_at(plain: &[u8], start: usize, count: usize) -> &[[u8; 2]]
     ensures slots { start + 2 * count ≤ length plain.now → map slot_value result.now ≡ slots_of plain.now start count }
     ensures long { start + 2 * count ≤ length plain.now → length result.now ≡ count }
+    ensures none { length plain.now < start + 2 * count → result.now ≡ [] }
 {
     if plain.len() < start || (plain.len() - start) / 2 < count {
         return &[];

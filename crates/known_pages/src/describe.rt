@@ -1,4 +1,6 @@
 // A page from its description.
+ghost use Rattle.std.specs.Prelude.{◌<◌};
+
 use std::iter;
 
 // So many hexadecimal digits from a place on, as a number. What is no digit counts as 0, and so does what lies past the end.
@@ -12,7 +14,9 @@ pub(crate) fn number(line: &[u8], from: usize, count: usize) -> u64 {
 }
 
 // Small letters alone.
-fn digit(b: u8) -> u64 {
+fn digit(b: u8) -> u64
+    ensures { result < 16 }
+{
     match b {
         b'0'..=b'9' => u64::from(b - b'0'),
         b'a'..=b'f' => u64::from(b - b'a') + 10,

@@ -22,9 +22,9 @@ use Rattle.parts.specs.Parts.{answer_size, answer_fields, place_fields, fits_siz
 abbrev pub layout_version : ℕ
 layout_version = 4
 
--- the answer part, and behind it what was asked for; beside a refusal, zeros of that width
+-- the answer part, and behind it what was asked for; beside a refusal, zeros of that width, in one field
 abbrev pub told_fields : {A : Type 0} → (A → List Field) → ℕ → Result A Refusal → List Field
-told_fields fields n r = answer_fields (answer_in r) ++ place_fields fields n (result_ok r)
+told_fields fields n r = answer_fields (answer_in r) ++ place_fields fields (little n 0 ∷ []) (result_ok r)
 
 -- integrity: the answer part alone
 abbrev pub integrity_bytes : Answer → List ℕ

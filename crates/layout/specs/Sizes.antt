@@ -1,6 +1,6 @@
 -- How many bytes the layouts take, whatever they hold. Assumes nothing.
 use mathlib.Core.Path.{◌≡◌, refl}
-use mathlib.Core.List.{List}
+use mathlib.Core.List.{List, [], ◌∷◌}
 use native.Mathlib.Omega.{arith}
 use Prim.Native.Nat.{ℕ, ◌+◌, ◌≤◌}
 use Rattle.std.specs.Prelude.{Some, None, Result, Ok, Err}
@@ -13,18 +13,22 @@ use Rattle.sector.specs.declared.fits.Fit.{Fit}
 use Rattle.choice.specs.declared.Choice.{Choice}
 use Rattle.choice.specs.declared.Refused.{Refused}
 use Rattle.verdict.specs.declared.Decoding.{Decoding}
-use Rattle.fields.specs.Fields.{Field, width_of, size_of}
+use Rattle.fields.specs.Fields.{Field, little, width_of, size_of}
 use Rattle.fields.proofs.Sizes.{size-append}
 use Rattle.parts.proofs.Sizes.{answer-size, place-size, fits-size, grounds-size, warnings-size, bvs-size}
 use Rattle.parts.specs.Parts.{answer_size, fits_size}
 use Rattle.layout.specs.Layouts.{told_fields, record_fields, record_size, header_fields, header_size, replacement_fields, scan_size, choice_fields, choice_size, decoded_fields, decoded_size, refused_fields, decoding_fields, decoding_size}
+
+zeros-size : (n : ℕ) → size_of (little n 0 ∷ []) ≡ n
+unfolding size_of width_of
+zeros-size n = omega arith
 
 pub told-size :
     {A : Type 0} (f : A → List Field) (n : ℕ)
     → ((x : A) → size_of (f x) ≡ n)
     → (r : Result A Refusal)
     → size_of (told_fields f n r) ≡ answer_size + n
-told-size f n h r = simp size-append (omega (arith, answer-size (answer_in r), place-size f n h (result_ok r)))
+told-size f n h r = simp size-append (omega (arith, answer-size (answer_in r), place-size f (little n 0 ∷ []) n h (zeros-size n) (result_ok r)))
 
 pub record-size : (t : PageTrailer) → size_of (record_fields t) ≡ record_size
 unfolding record_fields size_of width_of

@@ -1,6 +1,9 @@
 -- What each function finds, of the arguments as C lends them, and what becomes of the lent buffers. Assumes nothing.
 use Rattle.std.specs.Prelude.{ℕ, ◌≡◌, Bool, ◌&&◌, List, [], Result, leb, length}
+use Rattle.std.specs.Result.{result_ok, result_unwrap_or}
 use Rattle.lists.specs.Cases.{pick}
+use Rattle.answers.specs.Answers.{answer_in}
+use Rattle.answers.specs.declared.kinds.Refusal.{Refusal}
 use Rattle.answers.specs.Settings.{options_of, has_directory}
 use Rattle.summary.specs.Page.{fits_of, bytes_of, page_scan_of, scanned}
 use Rattle.summary.specs.Replace.{replaced, stored_after, shifted_after}
@@ -9,6 +12,7 @@ use Rattle.choice.specs.declared.Refused.{Refused}
 use Rattle.verdict.specs.declared.Decoding.{Decoding}
 use Rattle.slotted.specs.Parses.{parsed_of}
 use Rattle.rows.specs.RowAnswers.{row_found_of, rows_counted_of}
+use Rattle.rows.specs.declared.spans.Span.{Span}
 use Rattle.numbers.specs.Writes.{Wrote}
 use Rattle.parts.specs.Lent.{is_lent, fits_in}
 use Rattle.layout.specs.Layouts.{scan_size, scan_bytes, replacement_bytes, decoding_size, decoding_bytes}
@@ -68,10 +72,14 @@ abbrev pub parse_told : ℕ → List ℕ → ℕ → ℕ → List ℕ
 parse_told number plain leniency limit = parse_bytes (parsed_of limit number plain (has_directory leniency))
 
 abbrev pub row_count_told : ℕ → List ℕ → ℕ → ℕ → List ℕ
-row_count_told number plain leniency limit = row_count_bytes (rows_counted_of limit number plain (has_directory leniency))
+row_count_told number plain leniency limit =
+    let r : Result ℕ Refusal = rows_counted_of limit number plain (has_directory leniency) in
+    row_count_bytes (answer_in r) (result_unwrap_or r 0)
 
 abbrev pub row_told : ℕ → List ℕ → ℕ → ℕ → ℕ → List ℕ
-row_told number plain leniency limit row = row_bytes_of (row_found_of limit number plain (has_directory leniency) row)
+row_told number plain leniency limit row =
+    let r : Result Span Refusal = row_found_of limit number plain (has_directory leniency) row in
+    row_bytes_of (answer_in r) (result_ok r)
 
 abbrev pub rows_told : ℕ → List ℕ → ℕ → ℕ → List ℕ
 rows_told number plain leniency limit = page_rows_bytes limit number plain (has_directory leniency)

@@ -28,7 +28,7 @@ pub fn lumeviqo_row_count(
 {
     let options = Options::new(leniency, Options::MIN_TRAILER_COUNT, limit);
     let counted = rows::rows_counted(number, plain, options);
-    row_layout::write_row_count(answer, counted)
+    row_layout::write_row_count(answer, counted.err(), counted.unwrap_or(0))
 }
 
 pub fn lumeviqo_row(
@@ -43,7 +43,7 @@ pub fn lumeviqo_row(
 {
     let options = Options::new(leniency, Options::MIN_TRAILER_COUNT, limit);
     let found = rows::row_found(number, plain, options, row);
-    row_layout::write_row(answer, found)
+    row_layout::write_row(answer, found.err(), found.ok())
 }
 
 pub fn lumeviqo_rows(

@@ -1,5 +1,5 @@
 -- Bytes written at a place of a buffer, where they fit; else the buffer stays as it is. Assumes nothing.
-use Rattle.std.specs.Prelude.{ℕ, ◌+◌, ◌≡◌, Bool, List, leb, length}
+use Rattle.std.specs.Prelude.{ℕ, ◌+◌, ◌≡◌, Bool, List, eqb, leb, length}
 use Rattle.lists.specs.Cases.{pick}
 use Rattle.lists.specs.Pieces.{over}
 
@@ -18,3 +18,7 @@ past l at k = pick (fits l at k) (at + k) at
 pub record Wrote (l : List ℕ) (at : ℕ) (ys after : List ℕ) (next : ℕ) : Type 0 where
   pub bytes : after ≡ written l at ys
   pub place : next ≡ past l at (length ys)
+
+-- all of a buffer, where it is as long as the bytes
+unfoldable pub copied : List ℕ → List ℕ → List ℕ
+copied ys l = pick (eqb (length ys) (length l)) ys l

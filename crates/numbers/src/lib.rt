@@ -6,6 +6,6 @@ mod bytes;
 mod puts;
 mod same;
 
-pub use bytes::{put_bytes, put_zeros};
+pub use bytes::{copy, put_bytes, put_zeros};
 pub use puts::{Number, put_low};
 pub use same::all_are;

@@ -1,4 +1,4 @@
--- Laws of integrity: of a page that was written, in the order of the code's tests. Assumes nothing.
+-- Laws of integrity: of a page that was written, a law for each answer, its premises in the order of the code's tests. Assumes nothing.
 use Prim.Native.Nat.{ℕ}
 use mathlib.Core.Path.{◌≡◌, refl}
 use mathlib.Core.Bool.{Bool, true, false}
@@ -8,7 +8,7 @@ use lib.Dec.{eqb}
 use lib.ListN.{length}
 use Rattle.std.specs.Prelude.{Some, None}
 use Rattle.lists.specs.Cases.{pick}
-use Rattle.answers.specs.declared.kinds.Refusal.TheVariants.{BadCrc}
+use Rattle.answers.specs.declared.kinds.Refusal.TheVariants.{BadCrc, BadTrailer}
 use Rattle.page.specs.Trailer.{stored_crc, reserved_zero_of}
 use Rattle.page.specs.Integrity.{is_unallocated, computed_crc, trailer_holds, written_integrity, integrity_of}
 
@@ -22,19 +22,25 @@ module _ (number : ℕ) (s : List ℕ) where
     unfolding written_integrity
     on-crc n = rw (eq-eqb (length s) 4096 e, ne_eqb (stored_crc s) (computed_crc s) n)
 
-    on-good : stored_crc s ≡ computed_crc s → trailer_holds number s ≡ true → None ≡ written_integrity number s
-    unfolding written_integrity
-    on-good k h = rw (eq-eqb (length s) 4096 e, eq-eqb (stored_crc s) (computed_crc s) k, h)
+    module _ (k : stored_crc s ≡ computed_crc s) where
+      holding : trailer_holds number s ≡ true → None ≡ written_integrity number s
+      unfolding written_integrity
+      holding h = rw (eq-eqb (length s) 4096 e, eq-eqb (stored_crc s) (computed_crc s) k, h)
 
-    pub on-first : stored_crc s ≡ computed_crc s → number ≡ 0 → None ≡ written_integrity number s
-    on-first k z = on-good k (rw (eq-eqb number 0 z))
+      pub on-first : number ≡ 0 → None ≡ written_integrity number s
+      on-first z = holding (rw (eq-eqb number 0 z))
 
-    pub on-reserved : stored_crc s ≡ computed_crc s → reserved_zero_of s ≡ true → None ≡ written_integrity number s
-    on-reserved k h = on-good k (go (eqb number 0))
-      where
-        go : (b : Bool) → pick b true (reserved_zero_of s) ≡ true
-        go true = refl
-        go false = h
+      -- on page 0 too
+      pub on-good : reserved_zero_of s ≡ true → None ≡ written_integrity number s
+      on-good h = holding (go (eqb number 0))
+        where
+          go : (b : Bool) → pick b true (reserved_zero_of s) ≡ true
+          go true = refl
+          go false = h
+
+      pub on-trailer : (number ≡ 0 → ⊥) → reserved_zero_of s ≡ false → Some (BadTrailer number) ≡ written_integrity number s
+      unfolding written_integrity
+      on-trailer z r = rw (eq-eqb (length s) 4096 e, eq-eqb (stored_crc s) (computed_crc s) k, ne_eqb number 0 z, r)
 
 -- what `check_written` goes by
-pub ruleset standing = (on-crc, on-first, on-reserved)
+pub ruleset standing = (on-crc, on-first, on-good)

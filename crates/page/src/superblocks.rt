@@ -64,11 +64,15 @@ impl Superblock {
     pub fn parse_checked(page0: &[u8]) -> Result<Superblock, Refusal>
         ensures { result ≡ checked_superblock page0.now }
     {
-        let found = Superblock::parse(page0)?;
-        if found.magic != SA_MAGIC {
-            return Err(Refusal::BadMagic(found.magic));
+        if page0.len() != PAGE_SIZE {
+            return Err(Refusal::WrongPageLength(page0.len()));
         }
-        Ok(found)
+        // Before the rest is read: the marker is looked for in all of the page.
+        let magic = quad(page0, 0x14);
+        if magic != SA_MAGIC {
+            return Err(Refusal::BadMagic(magic));
+        }
+        Ok(read(page0))
     }
 }
 

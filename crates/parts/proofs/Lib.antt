@@ -3,3 +3,4 @@ pub mod Sizes
 pub mod Heads
 pub mod LentFits
 pub mod Zeros
+pub mod Blanks

@@ -41,25 +41,29 @@ fit_fields f =
     ∷ little 2 f.tied
     ∷ []
 
--- a place of a table: zeros where it is not used
-abbrev pub place_fields : {A : Type 0} → (A → List Field) → ℕ → Option A → List Field
-place_fields fields n None = little n 0 ∷ []
-place_fields fields n (Some x) = fields x
+-- and where a place has none
+abbrev pub no_fit : List Field
+no_fit = little 1 0 ∷ little 2 0 ∷ little 2 0 ∷ little 1 0 ∷ little 2 0 ∷ []
 
--- the first n entries of a table, each of w bytes; zeros past its end
-unfoldable pub table_fields : {A : Type 0} → (A → List Field) → ℕ → List A → ℕ → List Field
-table_fields fields w items n = joined (λ k. place_fields fields w (slice_get items k)) n
+-- a place of a table, and what stands in one that is not used
+abbrev pub place_fields : {A : Type 0} → (A → List Field) → List Field → Option A → List Field
+place_fields fields blank None = blank
+place_fields fields blank (Some x) = fields x
+
+-- the first n entries of a table; past its end, places that are not used
+unfoldable pub table_fields : {A : Type 0} → (A → List Field) → List Field → List A → ℕ → List Field
+table_fields fields blank items n = joined (λ k. place_fields fields blank (slice_get items k)) n
 
 -- a list in a table of places: how many, and the places
-abbrev pub listed_fields : {A : Type 0} {n : ℕ} → (A → List Field) → ℕ → Table A n → List Field
-listed_fields {n = n} fields w t = little 1 t.len ∷ table_fields (place_fields fields w) w t.items n
+abbrev pub listed_fields : {A : Type 0} {n : ℕ} → (A → List Field) → List Field → Table A n → List Field
+listed_fields {n = n} fields blank t = little 1 t.len ∷ table_fields (place_fields fields blank) blank t.items n
 
 -- the eight fits
 abbrev pub fits_size : ℕ
 fits_size = 8 * fit_size
 
 unfoldable pub fits_fields : List Fit → List Field
-fits_fields fits = table_fields fit_fields fit_size fits 8
+fits_fields fits = table_fields fit_fields no_fit fits 8
 
 -- a piece of evidence: number, two values
 abbrev pub ground_size : ℕ
@@ -72,8 +76,12 @@ ground_fields e =
     ∷ little 2 (placed (evidence_values e)).second
     ∷ []
 
+-- and where a place has none
+abbrev pub no_ground : List Field
+no_ground = little 1 0 ∷ little 2 0 ∷ little 2 0 ∷ []
+
 unfoldable pub grounds_fields : List (Option Evidence) → List Field
-grounds_fields grounds = table_fields (place_fields ground_fields ground_size) ground_size grounds 4
+grounds_fields grounds = table_fields (place_fields ground_fields no_ground) no_ground grounds 4
 
 -- a warning: number, page, three values
 abbrev pub warning_size : ℕ
@@ -88,9 +96,13 @@ warning_fields w =
     ∷ little 8 (placed (warning_values w.kind)).third
     ∷ []
 
+-- and where a place has none
+abbrev pub no_warning : List Field
+no_warning = little 1 0 ∷ little 8 0 ∷ little 8 0 ∷ little 8 0 ∷ little 8 0 ∷ []
+
 -- the first n places of a table of warnings
 unfoldable pub warnings_fields : List (Option Warning) → ℕ → List Field
-warnings_fields items n = table_fields (place_fields warning_fields warning_size) warning_size items n
+warnings_fields items n = table_fields (place_fields warning_fields no_warning) no_warning items n
 
 -- values of bv: how many, eight places
 abbrev pub bvs_size : ℕ
@@ -99,8 +111,12 @@ bvs_size = 9
 abbrev pub bv_fields : ℕ → List Field
 bv_fields bv = little 1 bv ∷ []
 
+-- and where a place has none
+abbrev pub no_bv : List Field
+no_bv = bv_fields 0
+
 unfoldable pub bvs_fields : Bvs → List Field
-bvs_fields t = listed_fields bv_fields 1 t
+bvs_fields t = listed_fields bv_fields no_bv t
 
 -- a table of slots, or of where rows start
 abbrev pub slots_size : ℕ

@@ -1,32 +1,31 @@
 // One part at a place of a buffer.
-ghost use Rattle.std.specs.Prelude.{ℕ, List};
+ghost use Rattle.std.specs.Prelude.{List};
 ghost use Rattle.fields.specs.Fields.{Field, Put};
-ghost use Rattle.parts.specs.Parts.{answer_fields, fit_size, fit_fields, ground_size, ground_fields, warning_size, warning_fields, bv_fields, place_fields};
+ghost use Rattle.parts.specs.Parts.{answer_fields, fit_fields, no_fit, ground_fields, no_ground, warning_fields, no_warning, bv_fields, no_bv, place_fields};
 
-use crate::{FIT_SIZE, GROUND_SIZE, WARNING_SIZE};
+use crate::WARNING_SIZE;
 use answers::{Evidence, Refusal, Values, Warning};
 use numbers::{Number, put_low, put_zeros};
 use sector::Fit;
 
 // What a table of a layout has an entry for.
 pub trait Part {
-    // How many bytes it takes.
-    ghost SIZE: { ℕ };
-
-    const SIZE: usize;
-
     ghost fields: { Self → List Field };
+
+    // Those of a place that is not used.
+    ghost blank: { List Field };
 
     fn put_at(&self, out: &mut [u8], at: usize) -> usize
         ensures { Put out.old at (fields self.now) out.new result };
+
+    fn put_blank(out: &mut [u8], at: usize) -> usize
+        ensures { Put out.old at blank out.new result };
 }
 
 impl Part for Fit {
-    ghost SIZE = { fit_size };
-
-    const SIZE: usize = FIT_SIZE;
-
     ghost fields = { fit_fields };
+
+    ghost blank = { no_fit };
 
     fn put_at(&self, out: &mut [u8], at: usize) -> usize {
         let at = self.step.put(out, at);
@@ -35,14 +34,20 @@ impl Part for Fit {
         let at = self.exact.put(out, at);
         self.tied.put(out, at)
     }
+
+    fn put_blank(out: &mut [u8], at: usize) -> usize {
+        let at = put_low::<1>(out, at, 0);
+        let at = put_low::<2>(out, at, 0);
+        let at = put_low::<2>(out, at, 0);
+        let at = put_low::<1>(out, at, 0);
+        put_low::<2>(out, at, 0)
+    }
 }
 
 impl Part for Evidence {
-    ghost SIZE = { ground_size };
-
-    const SIZE: usize = GROUND_SIZE;
-
     ghost fields = { ground_fields };
+
+    ghost blank = { no_ground };
 
     fn put_at(&self, out: &mut [u8], at: usize) -> usize {
         let values = self.values();
@@ -50,14 +55,18 @@ impl Part for Evidence {
         let at = put_low::<2>(out, at, values.first);
         put_low::<2>(out, at, values.second)
     }
+
+    fn put_blank(out: &mut [u8], at: usize) -> usize {
+        let at = put_low::<1>(out, at, 0);
+        let at = put_low::<2>(out, at, 0);
+        put_low::<2>(out, at, 0)
+    }
 }
 
 impl Part for Warning {
-    ghost SIZE = { warning_size };
-
-    const SIZE: usize = WARNING_SIZE;
-
     ghost fields = { warning_fields };
+
+    ghost blank = { no_warning };
 
     fn put_at(&self, out: &mut [u8], at: usize) -> usize {
         let values = self.kind.values();
@@ -67,34 +76,59 @@ impl Part for Warning {
         let at = values.second.put(out, at);
         values.third.put(out, at)
     }
+
+    // At once where there is room: a decoding has up to ten, and field by field they take twice as long.
+    fn put_blank(out: &mut [u8], at: usize) -> usize {
+        let end = put_zeros(out, at, WARNING_SIZE);
+        if end != at {
+            return end;
+        }
+        put_no_warning(out, at)
+    }
+}
+
+// Its fields, one behind the other. Inlined, it keeps the tests of a whole layout from folding.
+#[inline(never)]
+fn put_no_warning(out: &mut [u8], at: usize) -> usize
+    ensures { Put out.old at no_warning out.new result }
+{
+    let at = put_low::<1>(out, at, 0);
+    let at = put_low::<8>(out, at, 0);
+    let at = put_low::<8>(out, at, 0);
+    let at = put_low::<8>(out, at, 0);
+    put_low::<8>(out, at, 0)
 }
 
 // A value of bv.
 impl Part for u8 {
-    ghost SIZE = { 1 };
-
-    const SIZE: usize = 1;
-
     ghost fields = { bv_fields };
+
+    ghost blank = { no_bv };
 
     fn put_at(&self, out: &mut [u8], at: usize) -> usize {
         self.put(out, at)
     }
+
+    fn put_blank(out: &mut [u8], at: usize) -> usize {
+        put_low::<1>(out, at, 0)
+    }
 }
 
-// A place that is not used is zeros.
+// A place of a table, which may not be used.
 impl<T: Part> Part for Option<T> {
-    ghost SIZE = { T.SIZE };
+    ghost fields = { place_fields T.fields T.blank };
 
-    const SIZE: usize = T::SIZE;
-
-    ghost fields = { place_fields T.fields T.SIZE };
+    ghost blank = { T.blank };
 
     fn put_at(&self, out: &mut [u8], at: usize) -> usize {
         match self {
             Some(x) => x.put_at(out, at),
-            None => put_zeros(out, at, T::SIZE),
+            None => T::put_blank(out, at),
         }
+    }
+
+    fn put_blank(out: &mut [u8], at: usize) -> usize {
+        T::put_blank(out, at)
     }
 }
 

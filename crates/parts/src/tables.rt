@@ -7,7 +7,7 @@ use answers::Table;
 use numbers::put_low;
 
 pub fn put_all<T: Part, const N: usize>(out: &mut [u8], at: usize, items: &[T; N]) -> usize
-    ensures { Put out.old at (table_fields T.fields T.SIZE items.now N) out.new result }
+    ensures { Put out.old at (table_fields T.fields T.blank items.now N) out.new result }
 {
     let mut next = at;
     for x in items {
@@ -18,7 +18,7 @@ pub fn put_all<T: Part, const N: usize>(out: &mut [u8], at: usize, items: &[T; N
 
 // How many values a list in a table has, and the places.
 pub fn put_list<T: Part, const N: usize>(out: &mut [u8], at: usize, list: &Table<T, N>) -> usize
-    ensures { Put out.old at (listed_fields T.fields T.SIZE list.now) out.new result }
+    ensures { Put out.old at (listed_fields T.fields T.blank list.now) out.new result }
 {
     let at = put_low::<1>(out, at, list.len as u64);
     put_all(out, at, &list.items)

@@ -134,7 +134,8 @@ fn data_end(plain: &[u8]) -> usize
     plain.len().min(0xFF0)
 }
 
-// The slots at a position before an end: an offset, then strictly falling offsets and zeros.
+// The slots at a position before an end: an offset, then strictly falling offsets and zeros. By index, which is how many were taken: counted
+// beside the slots, it takes a tenth longer.
 fn run_at(plain: &[u8], end: usize, at: usize) -> Run
     requires { (end ≤ length plain.now) × (end ≤ 4096) × (at < 65536) }
     ensures { result ≡ run_of (slots_at end plain.now at) }
@@ -147,25 +148,26 @@ fn run_at(plain: &[u8], end: usize, at: usize) -> Run
         return Run { taken: 0, live: 0 };
     }
     let mut prev = first;
-    let mut taken: usize = 1;
     let mut live: usize = 1;
     let slots = pairs_in(&plain[at + 2..end]);
-    for slot in slots {
-        let w = pair_of(*slot);
+    for k in 0..slots.len() {
+        let w = pair_of(slots[k]);
         if w != 0 {
             // What is below an offset is below 0xFF0.
             if w < SLOT_OFFSET_MIN {
-                return Run { taken, live };
+                return Run { taken: k + 1, live };
             }
             if prev <= w {
-                return Run { taken, live };
+                return Run { taken: k + 1, live };
             }
             prev = w;
             live += 1;
         }
-        taken += 1;
     }
-    Run { taken, live }
+    Run {
+        taken: slots.len() + 1,
+        live,
+    }
 }
 
 // What a run at `start` makes of what was seen before it.

@@ -1,8 +1,6 @@
 -- The layouts of what is told of a plain page's rows, each a list of fields, and how many bytes each takes. Assumes nothing.
-use Rattle.std.specs.Prelude.{ℕ, ◌+◌, Bool, List, [], ◌∷◌, ◌++◌, Result, length}
-use Rattle.std.specs.Result.{result_ok, result_unwrap_or}
+use Rattle.std.specs.Prelude.{ℕ, ◌+◌, Bool, List, [], ◌∷◌, ◌++◌, Option, length}
 use Rattle.answers.specs.Answers.{Answer, answer_in}
-use Rattle.answers.specs.declared.kinds.Refusal.{Refusal}
 use Rattle.slotted.specs.Parses.{parsed_of}
 use Rattle.rows.specs.Rows.{start_of, end_of}
 use Rattle.rows.specs.RowAnswers.{rows_of}
@@ -10,25 +8,25 @@ use Rattle.rows.specs.declared.spans.Span.{Span}
 use Rattle.fields.specs.Fields.{Field, little, layout_bytes}
 use Rattle.parts.specs.Parts.{answer_size, answer_fields, slots_size, slots_fields}
 
--- how many there are; 0 beside a refusal
-unfoldable pub row_count_fields : Result ℕ Refusal → List Field
-row_count_fields n = answer_fields (answer_in n) ++ (little 2 (result_unwrap_or n 0) ∷ [])
+-- how many there are
+unfoldable pub row_count_fields : Answer → ℕ → List Field
+row_count_fields x n = answer_fields x ++ (little 2 n ∷ [])
 
 abbrev pub row_count_size : ℕ
 row_count_size = answer_size + 2
 
-abbrev pub row_count_bytes : Result ℕ Refusal → List ℕ
-row_count_bytes n = layout_bytes (row_count_fields n)
+abbrev pub row_count_bytes : Answer → ℕ → List ℕ
+row_count_bytes x n = layout_bytes (row_count_fields x n)
 
--- where one lies; 0 and 0 beside a refusal
-unfoldable pub row_fields : Result Span Refusal → List Field
-row_fields s = answer_fields (answer_in s) ++ (little 2 (start_of (result_ok s)) ∷ little 2 (end_of (result_ok s)) ∷ [])
+-- where one lies; 0 and 0 of none
+unfoldable pub row_fields : Answer → Option Span → List Field
+row_fields x s = answer_fields x ++ (little 2 (start_of s) ∷ little 2 (end_of s) ∷ [])
 
 abbrev pub row_size : ℕ
 row_size = answer_size + 4
 
-abbrev pub row_bytes_of : Result Span Refusal → List ℕ
-row_bytes_of s = layout_bytes (row_fields s)
+abbrev pub row_bytes_of : Answer → Option Span → List ℕ
+row_bytes_of x s = layout_bytes (row_fields x s)
 
 -- all: how many, and where each starts
 unfoldable pub list_fields : List ℕ → List Field

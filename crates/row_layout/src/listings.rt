@@ -11,12 +11,11 @@ ghost use Rattle.row_layout.specs.RowLayouts.{row_count_bytes, row_bytes_of, lis
 ghost use Rattle.row_layout.specs.FromPage.{StartsPut};
 
 use answers::{Options, Refusal};
-use directory::Listed;
+use directory::{Listed, decide_page};
 use numbers::{put_low, put_zeros};
 use parts::{ANSWER_SIZE, SLOTS_SIZE, put_answer};
 use rows::{Span, end_of, is_kept, start_of};
 use slots::pair_at;
-use slotted::locate;
 
 pub const ROW_COUNT_SIZE: usize = ANSWER_SIZE + 2;
 
@@ -26,26 +25,26 @@ const LIST_SIZE: usize = 2 + SLOTS_SIZE;
 
 pub const ROWS_SIZE: usize = ANSWER_SIZE + LIST_SIZE;
 
-pub fn write_row_count(out: &mut [u8], counted: Result<usize, Refusal>) -> usize
-    ensures { Wrote out.old 0 (row_count_bytes counted) out.new result }
+pub fn write_row_count(out: &mut [u8], x: Option<Refusal>, n: usize) -> usize
+    ensures { Wrote out.old 0 (row_count_bytes x n) out.new result }
 {
     if out.len() < ROW_COUNT_SIZE {
         return 0;
     }
-    let at = put_answer(out, 0, counted.err());
-    put_low::<2>(out, at, counted.unwrap_or(0) as u64)
+    let at = put_answer(out, 0, x);
+    put_low::<2>(out, at, n as u64)
 }
 
 // Where a row starts and where it ends.
-pub fn write_row(out: &mut [u8], found: Result<Span, Refusal>) -> usize
-    ensures { Wrote out.old 0 (row_bytes_of found) out.new result }
+pub fn write_row(out: &mut [u8], x: Option<Refusal>, span: Option<Span>) -> usize
+    ensures { Wrote out.old 0 (row_bytes_of x span) out.new result }
 {
     if out.len() < ROW_SIZE {
         return 0;
     }
-    let start = start_of(found.ok());
-    let end = end_of(found.ok());
-    let at = put_answer(out, 0, found.err());
+    let start = start_of(span);
+    let end = end_of(span);
+    let at = put_answer(out, 0, x);
     let at = put_low::<2>(out, at, start as u64);
     put_low::<2>(out, at, end as u64)
 }
@@ -58,9 +57,16 @@ pub fn write_rows(out: &mut [u8], number: u64, plain: &[u8], options: Options) -
     if out.len() < ROWS_SIZE {
         return 0;
     }
-    let located = locate(number, plain, options);
-    let at = put_answer(out, 0, located.err());
-    put_listed(out, at, plain, located.ok().and_then(|l| l.listed))
+    match decide_page(number, plain, options) {
+        Ok(d) => {
+            let at = put_answer(out, 0, None);
+            put_listed(out, at, plain, d.listed)
+        }
+        Err(refusal) => {
+            let at = put_answer(out, 0, Some(refusal));
+            put_listed(out, at, plain, None)
+        }
+    }
 }
 
 // Where none is listed there are no rows.

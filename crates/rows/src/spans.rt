@@ -175,5 +175,5 @@ fn count_kept(slots: &[[u8; 2]], start: usize, stop: usize) -> usize
 pub fn is_kept(start: usize, stop: usize, v: usize) -> bool
     ensures { result ≡ is_kept start stop v }
 {
-    v != 0 && !(start..stop).contains(&v)
+    v != 0 && (v < start || stop <= v)
 }

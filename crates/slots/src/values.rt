@@ -55,9 +55,10 @@ impl<'a> Plain<'a> {
 pub fn pair_at(plain: &[u8], i: usize) -> usize
     ensures { (result ≡ pair_at plain.now i) × (result < 65536) }
 {
-    let rest = plain.get(i..).unwrap_or(&[]);
-    let byte = |k: usize| rest.get(k).copied().unwrap_or(0);
-    pair_of([byte(0), byte(1)])
+    if plain.len() < 2 || plain.len() - 2 < i {
+        return pair_of([plain.get(i).copied().unwrap_or(0), 0]);
+    }
+    pair_of([plain[i], plain[i + 1]])
 }
 
 // A slot's value.

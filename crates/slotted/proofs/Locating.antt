@@ -1,12 +1,17 @@
--- Laws of the warnings that are given. Assumes nothing.
-use Rattle.std.proofs.Common.{◌≡◌, ℕ, ◌≤◌, ◌+◌, Bool, true, false, Option, Some, None, leb, set, take, drop, replicate, refl, arith}
+-- Laws of the warnings that are given, and that what is listed is sound. Assumes nothing.
+use Rattle.std.proofs.Common.{◌≡◌, ℕ, ◌≤◌, ◌+◌, Bool, true, false, Option, Some, None, Result, Ok, Err, IfOk, List, leb, set, take, drop, replicate, refl, arith}
 use Rattle.lists.specs.Cases.{pick}
 use Rattle.answers.specs.Tables.{with_item}
 use Rattle.answers.specs.declared.tables.Table.{Table}
 use Rattle.answers.specs.declared.notices.WarningKind.{WarningKind}
 use Rattle.answers.specs.declared.notices.Warning.{Warning}
+use Rattle.answers.specs.declared.kinds.Refusal.{Refusal}
+use Rattle.directory.specs.Directory.{Sound}
+use Rattle.directory.specs.Decisions.{page_decision}
 use Rattle.directory.specs.declared.verdicts.Decided.{Decided}
-use Rattle.slotted.specs.Locations.{warned, decided_warnings}
+use Rattle.directory.proofs.Decisions.{HoldsOf, page-sound}
+use Rattle.slotted.specs.Locations.{warned, decided_warnings, located_by, located_of}
+use Rattle.slotted.specs.declared.locations.Located.{Located}
 
 -- the first three places of any table of some more say it all
 pub record SameThree (small : Table Warning 3) (great : Table Warning 1026) : Type 0 where
@@ -37,3 +42,15 @@ one_more {n} t number (Some kind) k h = go (leb n t.len)
     go : (b : Bool) → (pick b t (record { items = set t.items t.len (Some (record { page = number; kind = kind })); len = t.len + 1 })).len ≤ k + 1
     go true = omega arith
     go false = omega arith
+
+-- what it lists is sound
+pub sound-located :
+    (lim number : ℕ) (plain : List ℕ) (lenient : Bool) (l : Result Located Refusal)
+    → l ≡ located_of lim number plain lenient
+    → IfOk l (λ x. HoldsOf (Sound plain) x.listed)
+unfolding located_of
+sound-located lim number plain lenient l e = rw e (go (page_decision lim number plain lenient) (page-sound lim number plain lenient _ refl))
+  where
+    go : (d : Result Decided Refusal) → IfOk d (λ d. HoldsOf (Sound plain) d.listed) → IfOk (located_by number d) (λ x. HoldsOf (Sound plain) x.listed)
+    go (Ok d) h = h
+    go (Err r) h = tt

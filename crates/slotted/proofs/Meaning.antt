@@ -100,6 +100,20 @@ pub located-parse :
 located-parse lim number plain lenient small l e =
     subst (λ (x : Result Located Refusal). SaysTheParse plain x (parsed_of lim number plain lenient)) (sym e) (located-says lim number plain lenient small)
 
+-- it lists few slots
+pub located-few :
+    (lim number : ℕ) (plain : List ℕ) (lenient : Bool)
+    → byte_at plain 0xFF0 < 256
+    → (l : Result Located Refusal)
+    → l ≡ located_of lim number plain lenient
+    → IfOk l (λ x. HoldsOf (λ start count. count ≤ 1024) x.listed)
+unfolding located_of
+located-few lim number plain lenient small l e = rw e (go (decision_of lim plain lenient) (listed-few lim plain lenient small))
+  where
+    go : (d : Decision) → HoldsOf (λ start count. count ≤ 1024) (listed_of d) → IfOk (located_by number (numbered number d)) (λ x. HoldsOf (λ start count. count ≤ 1024) x.listed)
+    go (Ok d) h = h
+    go (Err u) h = tt
+
 -- what it lists is sound, and few
 pub located-sound :
     (lim number : ℕ) (plain : List ℕ) (lenient : Bool) (d : Decided)

@@ -1,10 +1,14 @@
--- Laws of the parse's table of slots. Assumes nothing.
-use Rattle.std.proofs.Common.{◌≡◌, ℕ, suc, ◌+◌, ◌-◌, ◌*◌, ◌<◌, List, [], ◌∷◌, ◌++◌, length, set, replicate, sym, ap, ◌∙◌, append_assoc, arith, length-append}
+-- Laws of the parse's table of slots, and of its answer. Assumes nothing.
+use Rattle.std.proofs.Common.{◌≡◌, ℕ, suc, ◌+◌, ◌-◌, ◌*◌, ◌<◌, Bool, Result, Ok, Err, List, [], ◌∷◌, ◌++◌, length, set, replicate, refl, sym, ap, ◌∙◌, append_assoc, arith, length-append}
 use lib.Seq.{set_at}
 use Rattle.lists.specs.Bytes.{pair_at}
 use Rattle.lists.proofs.Each.{each_more, each-length}
+use Rattle.answers.specs.Answers.{Answer, answer_in}
+use Rattle.answers.specs.declared.kinds.Refusal.{Refusal}
 use Rattle.directory.specs.Directory.{slots_of}
-use Rattle.slotted.specs.Parses.{table_of}
+use Rattle.directory.specs.Decisions.{page_decision}
+use Rattle.directory.specs.declared.verdicts.Decided.{Decided}
+use Rattle.slotted.specs.Parses.{table_of, parsed_by, parsed_of}
 
 -- the table, slot by slot
 table-put : (l t : List ℕ) (k v : ℕ) → length l ≡ k → k < 1024 → t ≡ table_of l → set t k v ≡ table_of (l ++ (v ∷ []))
@@ -20,3 +24,13 @@ pub table_more : (plain : List ℕ) (start k v : ℕ) (t : List ℕ) → k < 102
 table_more plain start k v t h e q =
     let f : ℕ → ℕ = λ j. pair_at plain (start + 2 * j) in
     table-put (slots_of plain start k) t k v (each-length f k) h q ∙ ap (λ (x : ℕ). table_of (slots_of plain start k ++ (x ∷ []))) e ∙ ap table_of (sym (each_more f k))
+
+-- the answer is the decision's
+module _ (lim number : ℕ) (plain : List ℕ) (lenient : Bool) (d : Result Decided Refusal) (e : d ≡ page_decision lim number plain lenient) where
+  pub answer-is : (a : Answer) → a ≡ answer_in d → a ≡ answer_in (parsed_of lim number plain lenient)
+  unfolding parsed_of
+  answer-is a ea = ea ∙ same d ∙ ap (λ (x : Result Decided Refusal). answer_in (parsed_by number plain x)) e
+    where
+      same : (x : Result Decided Refusal) → answer_in x ≡ answer_in (parsed_by number plain x)
+      same (Ok x) = refl
+      same (Err r) = refl

@@ -31,23 +31,18 @@ pub fn locate(number: u64, plain: &[u8], options: Options) -> Result<Located, Re
 pub(crate) fn warnings<const N: usize>(number: u64, d: Decided) -> Table<Warning, N>
     ensures { result ≡ decided_warnings number d }
 {
-    warned(
-        warned(warned(Table::none(), number, d.first), number, d.second),
-        number,
-        d.third,
-    )
+    let mut table = Table::none();
+    warn(&mut table, number, d.first);
+    warn(&mut table, number, d.second);
+    warn(&mut table, number, d.third);
+    table
 }
 
 // One warning of the page more, where it is given.
-fn warned<const N: usize>(
-    table: Table<Warning, N>,
-    number: u64,
-    kind: Option<WarningKind>,
-) -> Table<Warning, N>
-    ensures { result ≡ warned table.entry number kind }
+fn warn<const N: usize>(table: &mut Table<Warning, N>, number: u64, kind: Option<WarningKind>)
+    ensures { table.new ≡ warned table.old number kind }
 {
-    match kind {
-        Some(kind) => table.with(Warning { page: number, kind }),
-        None => table,
+    if let Some(kind) = kind {
+        table.add(Warning { page: number, kind });
     }
 }

@@ -44,6 +44,6 @@ fn put_sector(
     ensures shifted_after { shifted.new ≡ over shifted.old (sector * 512) (sector_of (offset_of number sector) (data_of sector new.now)) }
 {
     let start = sector * 512;
-    stored[start..start + 512].copy_from_slice(new);
+    numbers::copy(new, &mut stored[start..start + 512]);
     rescan(number, sector, 1, stored, shifted, fits)
 }

@@ -6,8 +6,10 @@ use mathlib.Core.List.{List}
 use borrow.Author.Tests.{lt-ltb, le-ltb}
 use lib.ListN.{length}
 use Rattle.std.specs.Prelude.{Some, None, Result, Ok, Err, position}
-use Rattle.answers.specs.Answers.{Answer}
-use Rattle.answers.specs.Settings.{keystream}
+use Rattle.lists.specs.Cases.{pick}
+use Rattle.lists.proofs.Picks.{never_both}
+use Rattle.answers.specs.Answers.{Answer, is_accepted}
+use Rattle.answers.specs.Settings.{keystream, integrity}
 use Rattle.answers.specs.Tables.{empty}
 use Rattle.answers.specs.Warns.{Warnings}
 use Rattle.answers.specs.declared.kinds.Refusal.{Refusal}
@@ -22,7 +24,7 @@ use Rattle.choice.specs.Supplied.{supplied_of}
 use Rattle.choice.proofs.ChoiceCases.{asked-long}
 use Rattle.verdict.specs.declared.Decoding.{Decoding}
 use Rattle.verdict.specs.Sectors.{entry, refit_of, first_weak, sector_warnings}
-use Rattle.verdict.specs.Verdict.{warning_noted, sectors_decide, settled_of, integrity_warning, integrity_left, verdict_by}
+use Rattle.verdict.specs.Verdict.{warning_noted, sectors_decide, settled_of, integrity_refuses, integrity_warning, integrity_left, verdict_by}
 use Rattle.verdict.proofs.WeakSectors.{weak-here, weak-none}
 
 -- ---- the sectors
@@ -66,8 +68,20 @@ module _ (number : ℕ) (lenient : Bool) (fits : List Fit) (r : Result Choice Re
   unfolding settled_of
   settled-refused e h = rw (← h)
 
-  pub settled-taken : (c : Choice) → Ok c ≡ r → settled_of number lenient fits r ws ≡ settled_of number lenient fits (Ok c) ws
+  pub settled-as : (c : Choice) → Ok c ≡ r → settled_of number lenient fits r ws ≡ settled_of number lenient fits (Ok c) ws
+  settled-as c h = rw (← h)
+
+  pub settled-taken : (c : Choice) → Ok c ≡ r → settled_of number lenient fits r ws ≡ sectors_decide number lenient fits c (warning_noted number c.warned ws)
+  unfolding settled_of
   settled-taken c h = rw (← h)
+
+  pub settled-lenient :
+      (c : Choice)
+      → Ok c ≡ r
+      → lenient ≡ true
+      → settled_of number lenient fits r ws
+      ≡ Ok (record { choice = c; fits = fits; warnings = sector_warnings number fits (warning_noted number c.warned ws) 8 })
+  settled-lenient c h l = settled-taken c h ∙ sectors-lenient number lenient fits c (warning_noted number c.warned ws) l
 
 -- what was asked refuses, or else there are 4,080 bytes
 pub unless-ok :
@@ -97,6 +111,13 @@ module _ (number : ℕ) (x : Answer) (n : ℕ) (fits : List Fit) (xs anchors : L
   unfolding verdict_by
   verdict-refused r h = rw (← h)
 
+  pub verdict-settled :
+      integrity_refuses x o ≡ false
+      → verdict_by number x n fits xs anchors o
+      ≡ settled_of number (keystream o) (refit_of fits xs) (choice_of number xs anchors n o) (warning_noted number (integrity_warning x) empty)
+  unfolding verdict_by
+  verdict-settled h = rw h
+
   module _ (h : None ≡ integrity_left x o) where
     pub verdict-unchosen : (e : Refused) → Err e ≡ choice_of number xs anchors n o → verdict_by number x n fits xs anchors o ≡ Err e
     unfolding verdict_by settled_of
@@ -110,9 +131,17 @@ module _ (number : ℕ) (x : Answer) (n : ℕ) (fits : List Fit) (xs anchors : L
     unfolding verdict_by
     verdict-chosen c f = rw (← h, ← f)
 
+-- what integrity refuses was not accepted
+pub refuses-refused : (x : Answer) (o : Options) → integrity_refuses x o ≡ true → is_accepted x ≡ false
+refuses-refused x o = go (is_accepted x)
+  where
+    go : (b : Bool) → pick b false (not (integrity o)) ≡ true → b ≡ false
+    go true h = absurd (never_both refl h)
+    go false h = refl
+
 -- what `by_sectors`, `decide` and `decide_supplied` go by
 pub ruleset judging = (sectors-lenient, sectors-some, sectors-none)
 
 pub ruleset deciding = (verdict-refused, verdict-unchosen, verdict-chosen, choice-sized)
 
-pub ruleset supplying = (settled-refused, settled-taken, supplied-sized)
+pub ruleset supplying = (settled-refused, settled-as, supplied-sized)

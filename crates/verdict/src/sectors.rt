@@ -92,7 +92,7 @@ fn warn_sectors(number: u64, fits: [Fit; 8], warnings: Warnings) -> Warnings
     let mut all = warnings;
     for (s, fit) in fits.iter().enumerate() {
         if !fit.confident() {
-            all = all.with(Warning {
+            all.add(Warning {
                 page: number,
                 kind: WarningKind::LowConfidenceSector {
                     sector: s as u8,

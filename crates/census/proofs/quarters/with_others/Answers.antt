@@ -1,11 +1,11 @@
 -- Sector after sector the counts of those that are not exact are added.
-use Rattle.std.proofs.Common.{◌≡◌, ◌+◌, ◌%◌, ap, ◌∙◌, arith, rules}
+use Rattle.std.proofs.Common.{◌≡◌, ◌+◌, ◌%◌, ap, ◌∙◌, arith}
 use Rattle.lists.specs.Bytes.{byte_at}
 use Rattle.lists.specs.Counts.{count, sum}
 use Rattle.lists.proofs.Each.{each-ext}
 use Rattle.census.specs.Told.{other_count}
 use Rattle.census.specs.Tables.{held, with_others}
-use Rattle.census.proofs.Counting.{others-none, others_no, others-yes, others-le, sector-long, part_of}
+use Rattle.census.proofs.Counting.{others-none, others_no, others-yes, others-le, part_of}
 use Rattle.census.proofs.quarters.with_others.Goals as goal
 use Rattle.census.proofs.quarters.with_others.Goals.{then-not-fit, else-not-fit}
 
@@ -18,11 +18,10 @@ loop-s-preserved c v h =
     let l = c.loop-s in
     elim c.if-not-fit.branch [
       | then-not-fit w ↦
-          let long = sector-long a.shifted.now l.s _ c.requires.shifted_len (search rules) w.sector_end.ensures in
           ap (λ t. held t v % 65536) w.counts-is
           ∙ omega (
             arith,
-            w.add.ensures (omega (arith, long, w.sector_end.ensures)) v h,
+            w.add.ensures v h,
             l.invariant v h,
             ap (count v) (part_of a.shifted.now l.s _ w.sector_end.ensures),
             others-yes a.fits a.shifted.now v l.s w.if-not-fit.true,

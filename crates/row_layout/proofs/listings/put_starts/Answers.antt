@@ -1,5 +1,5 @@
 -- `put_starts` meets its contract: what `Listing` says holds from the far end on, and each row is put behind those before it.
-use Rattle.std.proofs.Common.{◌≡◌, ◌+◌, ◌*◌, ◌≤◌, ℕ, length, sym, subst, ◌∙◌, arith}
+use Rattle.std.proofs.Common.{◌≡◌, ◌+◌, ◌*◌, ◌≤◌, ◌<◌, ℕ, length, sym, subst, ◌∙◌, arith}
 use Rattle.lists.specs.Pieces.{joined}
 use Rattle.fields.specs.Fields.{pair_entry, Put}
 use Rattle.fields.proofs.Puts.{put-none, put-known}
@@ -20,14 +20,15 @@ loop-k-preserved-then-is_kept c =
     let rows = rows_at a.plain.now a.start a.count in
     let kept = sym c.is_kept.ensures ∙ c.if-is_kept.true in
     let g = c.loop-k.invariant.0 in
-    let at = list_at a.plain.now a.start a.count _ c.loop-k.k c.loop-k.rows g c.pair_at-v.result c.loop-k-test.true c.pair_at-v.ensures.0 kept in (
-      list-more a.plain.now a.start a.count _ c.loop-k.k c.loop-k.rows g c.pair_at-v.result c.loop-k-test.true c.pair_at-v.ensures.0 kept,
+    let some : 0 < c.loop-k.k = omega (arith, c.loop-k-test.true) in
+    let at = list_at a.plain.now a.start a.count _ c.loop-k.k c.loop-k.rows g c.pair_at-v.result some c.pair_at-v.ensures.0 kept in (
+      list-more a.plain.now a.start a.count _ c.loop-k.k c.loop-k.rows g c.pair_at-v.result some c.pair_at-v.ensures.0 kept,
       table_more (pair_entry rows) c.loop-k.invariant.1 (put-known (sym at) c.put_low-next.ensures put-none),
     )
 
 pub loop-k-preserved : goal.loop-k-preserved
 loop-k-preserved c = (
-  list-skip _ _ _ _ _ _ c.loop-k.invariant.0 _ c.loop-k-test.true c.pair_at-v.ensures.0 (sym c.is_kept.ensures ∙ c.if-is_kept.false),
+  list-skip _ _ _ _ _ _ c.loop-k.invariant.0 _ (omega (arith, c.loop-k-test.true)) c.pair_at-v.ensures.0 (sym c.is_kept.ensures ∙ c.if-is_kept.false),
   c.loop-k.invariant.1,
 )
 

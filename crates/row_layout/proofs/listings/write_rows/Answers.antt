@@ -1,9 +1,10 @@
 -- `write_rows` meets its contract: the answer part, and the rows of what is listed.
-use Rattle.std.proofs.Common.{◌≡◌, arith, rules}
+use Rattle.std.proofs.Common.{Some, None, Ok, Err, refl, arith}
 use Rattle.answers.specs.Settings.{directory}
 use Rattle.fields.proofs.Puts.{layout-short}
+use Rattle.slotted.proofs.Meaning.{located-sound}
 use Rattle.row_layout.proofs.Sizes.{rows-size}
-use Rattle.row_layout.proofs.Wholes.{listed_in, taken-listed, sound-listed, rows_written}
+use Rattle.row_layout.proofs.Wholes.{rows_written}
 use Rattle.row_layout.proofs.listings.write_rows.Goals as goal
 
 pub returns-then-out-lt-ROWS_SIZE : goal.returns-then-out-lt-ROWS_SIZE
@@ -12,12 +13,17 @@ returns-then-out-lt-ROWS_SIZE c =
 
 pub put_listed-requires : goal.put_listed-requires
 put_listed-requires c =
-    let e : c.and_then.result ≡ listed_in c.locate-located.result = taken-listed _ _ _ c.ok.ensures.value (search rules) in
-    rw e (sound-listed c.locate-located.result _ c.locate-located.ensures.sound)
-
-pub returns : goal.returns
-returns c =
     let a = c.args in
-    let e : c.and_then.result ≡ listed_in c.locate-located.result = taken-listed _ _ _ c.ok.ensures.value (search rules) in
-    rows_written a.options.search_limit a.number a.plain.now (directory a.options) c.locate-located.result c.locate-located.ensures.located
-    _ _ c.err.ensures.value e c.put_answer-at.ensures c.put_listed.ensures (omega arith)
+    located-sound a.options.search_limit a.number a.plain.now (directory a.options) c.in-Ok.d (omega (arith, c.type_inv.plain 0xFF0)) c.in-Ok.ensures.decided
+
+pub returns-in-Ok : goal.returns-in-Ok
+returns-in-Ok c =
+    let a = c.args in
+    rows_written a.options.search_limit a.number a.plain.now (directory a.options) (Ok c.in-Ok.d) c.in-Ok.ensures.decided
+    None c.in-Ok.d.listed refl refl c.put_answer-at.ensures c.put_listed.ensures (omega arith)
+
+pub returns-in-Err : goal.returns-in-Err
+returns-in-Err c =
+    let a = c.args in
+    rows_written a.options.search_limit a.number a.plain.now (directory a.options) (Err c.in-Err.refusal) c.in-Err.ensures.decided
+    (Some c.in-Err.refusal) None refl refl c.put_answer-at-in-Err.ensures c.put_listed-in-Err.ensures (omega arith)

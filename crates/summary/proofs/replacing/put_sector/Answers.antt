@@ -4,13 +4,12 @@ use mathlib.Core.Path.{◌≡◌, ap, ◌∙◌}
 use mathlib.Core.List.{List, ◌++◌}
 use native.Mathlib.Omega.{arith}
 use lib.ListN.{length, take, drop}
-use Rattle.lists.specs.Pieces.{over}
+use Rattle.numbers.proofs.Copies.{copied-part}
 use Rattle.summary.specs.Rescan.{refitted, reshifted}
 use Rattle.summary.proofs.Rescans.{refitted-one, reshifted-one}
 use Rattle.summary.proofs.replacing.put_sector.Goals as goal
 
 pub returns : goal.returns
-unfolding over
 returns c =
     let a = c.args in
     let p = c.requires in
@@ -20,8 +19,8 @@ returns c =
     let w : ℕ = s * 512 + 512 - s * 512 in
     let k : w ≡ length new = omega (arith, p.1) in
     let put =
-    ap (λ (y : List ℕ). take (s * 512) stored ++ (y ++ drop w (drop (s * 512) stored))) c.copy_from_slice.ensures.after
-    ∙ ap (λ (n : ℕ). take (s * 512) stored ++ (new ++ drop n (drop (s * 512) stored))) k in
+    ap (λ (y : List ℕ). take (s * 512) stored ++ (y ++ drop w (drop (s * 512) stored))) c.copy.ensures
+    ∙ copied-part new stored (s * 512) w w (omega (arith, p.1, p.2, p.0)) k k in
     let scan = c.rescan.ensures in
     record {
       value = scan.value ∙ ap (λ (x : List ℕ). refitted a.number x s a.fits 1) put ∙ refitted-one a.number stored new s p.0 p.2 p.1 a.fits;

@@ -16,4 +16,4 @@ returns c =
     ∙ each-ext (λ v. held c.add.new.self v % 65536) (λ v. count v bytes) 256
     (λ v h.
     omega
-    (arith, c.requires, c.add.ensures (omega (arith, c.requires)) v h, c.after-counts.ensures v h, get_or-replicate {A = ℕ} 256 v 0 0 h, count-le v bytes))
+    (arith, c.requires, c.add.ensures v h, c.after-counts.ensures v h, get_or-replicate {A = ℕ} 256 v 0 0 h, count-le v bytes))

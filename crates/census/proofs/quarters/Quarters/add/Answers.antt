@@ -1,6 +1,6 @@
--- `add` meets its contract: i bytes of each quarter are counted in its table.
+-- `add` meets its contract: i bytes of each quarter are counted in its table, and those left over in the last.
 use Rattle.std.proofs.Common.{◌≡◌, ◌/◌, length, arith, rules}
-use Rattle.census.proofs.Counting.{added_none, added_more, quarters-count}
+use Rattle.census.proofs.Counting.{added_none, added_more, past_none, past_more, quarters-count}
 use Rattle.census.proofs.quarters.Quarters.add.Goals as goal
 
 pub loop-i-init : goal.loop-i-init
@@ -16,10 +16,24 @@ loop-i-preserved c =
       added_more _ _ _ _ _ t.3 c.note-in-loop-i-3.ensures (search rules) (search rules) (omega arith),
     )
 
+pub loop-k-init : goal.loop-k-init
+loop-k-init c = (search rules, search rules, search rules, search rules, past_none _ _ _ (search rules))
+
+pub loop-k-preserved : goal.loop-k-preserved
+loop-k-preserved c =
+    let t = c.loop-k.invariant in (
+      search rules,
+      search rules,
+      search rules,
+      search rules,
+      past_more _ _ _ _ _ t.0 t.4 c.note-in-loop-k.ensures (search rules) (search rules) (search rules),
+    )
+
 pub returns : goal.returns
-returns c by_four v h =
+returns c v h =
     let l = c.loop-i in
+    let k = c.loop-k in
     let bytes = c.args.bytes.now in
     let q = length bytes / 4 in
     let e : l.i ≡ q = omega arith in
-    quarters-count bytes q (omega (arith, by_four)) e l.invariant v h
+    quarters-count bytes q e (search rules) l.invariant k.invariant.1 k.invariant.2 k.invariant.3 k.invariant.4 v h
