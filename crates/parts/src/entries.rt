@@ -77,7 +77,7 @@ impl Part for Warning {
         values.third.put(out, at)
     }
 
-    // At once where there is room: a decoding has up to ten, and field by field they take twice as long.
+    // At once where there is room: a decoding has ten places.
     fn put_blank(out: &mut [u8], at: usize) -> usize {
         let end = put_zeros(out, at, WARNING_SIZE);
         if end != at {

@@ -103,6 +103,11 @@ module _ (lim : ℕ) (p : List ℕ) (at prev taken live pos w : ℕ) (g : Going 
   pub stop-above : (w ≡ 0 → ⊥) → prev ≤ w → record { taken = taken; live = live } ≡ run_of (slots_at lim p at)
   stop-above n l = sym (rest-here ∙ ap (onto taken live) (falling-above prev w _ n l) ∙ onto-nil taken live)
 
+-- where a pair has room there is a slot
+pub slot-first : (lim at n : ℕ) → (n ≤ 0 → lim ≤ at + 2 * 0 + 1) → at + 1 < lim → 1 ≤ n
+slot-first lim at zero over h = omega (arith, over (omega arith))
+slot-first lim at (suc n) over h = omega arith
+
 pub stop-end : (lim : ℕ) (p : List ℕ) (at prev taken live pos : ℕ) → Going lim p at prev taken live pos → lim ≤ pos + 1 → record { taken = taken; live = live } ≡ run_of (slots_at lim p at)
 unfolding falling
 stop-end lim p at prev taken live pos g h =

@@ -134,8 +134,7 @@ fn data_end(plain: &[u8]) -> usize
     plain.len().min(0xFF0)
 }
 
-// The slots at a position before an end: an offset, then strictly falling offsets and zeros. By index, which is how many were taken: counted
-// beside the slots, it takes a tenth longer.
+// The slots at a position before an end: an offset, then strictly falling offsets and zeros.
 fn run_at(plain: &[u8], end: usize, at: usize) -> Run
     requires { (end ≤ length plain.now) × (end ≤ 4096) × (at < 65536) }
     ensures { result ≡ run_of (slots_at end plain.now at) }
@@ -149,23 +148,23 @@ fn run_at(plain: &[u8], end: usize, at: usize) -> Run
     }
     let mut prev = first;
     let mut live: usize = 1;
-    let slots = pairs_in(&plain[at + 2..end]);
-    for k in 0..slots.len() {
+    let slots = pairs_in(&plain[at..end]);
+    for k in 1..slots.len() {
         let w = pair_of(slots[k]);
         if w != 0 {
             // What is below an offset is below 0xFF0.
             if w < SLOT_OFFSET_MIN {
-                return Run { taken: k + 1, live };
+                return Run { taken: k, live };
             }
             if prev <= w {
-                return Run { taken: k + 1, live };
+                return Run { taken: k, live };
             }
             prev = w;
             live += 1;
         }
     }
     Run {
-        taken: slots.len() + 1,
+        taken: slots.len(),
         live,
     }
 }

@@ -11,11 +11,11 @@ ghost use Rattle.row_layout.specs.RowLayouts.{row_count_bytes, row_bytes_of, lis
 ghost use Rattle.row_layout.specs.FromPage.{StartsPut};
 
 use answers::{Options, Refusal};
-use directory::{Listed, decide_page};
+use directory::{Listed, decide_page, slots_at};
 use numbers::{put_low, put_zeros};
 use parts::{ANSWER_SIZE, SLOTS_SIZE, put_answer};
 use rows::{Span, end_of, is_kept, start_of};
-use slots::pair_at;
+use slots::pair_of;
 
 pub const ROW_COUNT_SIZE: usize = ANSWER_SIZE + 2;
 
@@ -106,8 +106,9 @@ fn put_starts(out: &mut [u8], at: usize, plain: &[u8], start: usize, count: usiz
     let stop = start + 2 * count;
     let mut rows: usize = 0;
     let mut next = at;
-    for k in (0..count).rev() {
-        let v = pair_at(plain, start + 2 * k);
+    let slots = slots_at(plain, start, count);
+    for k in (0..slots.len()).rev() {
+        let v = pair_of(slots[k]);
         if is_kept(start, stop, v) {
             next = put_low::<2>(out, next, v as u64);
             rows += 1;

@@ -4,4 +4,4 @@ use Rattle.preludes.proofs.Runs.{Going}
 use Rattle.preludes.proofs.search.run_at.Given as goal
 
 abbrev pub invariant-loop-k : goal.invariant-loop-k
-invariant-loop-k l = Going l.end l.plain l.at l.prev (l.k + 1) l.live (l.at + 2 + 2 * l.k)
+invariant-loop-k l = Going l.end l.plain l.at l.prev l.k l.live (l.at + 2 * l.k)
