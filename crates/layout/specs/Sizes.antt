@@ -15,13 +15,9 @@ use Rattle.choice.specs.declared.Refused.{Refused}
 use Rattle.verdict.specs.declared.Decoding.{Decoding}
 use Rattle.fields.specs.Fields.{Field, little, width_of, size_of}
 use Rattle.fields.proofs.Sizes.{size-append}
-use Rattle.parts.proofs.Sizes.{answer-size, place-size, fits-size, grounds-size, warnings-size, bvs-size}
+use Rattle.parts.proofs.Sizes.{answer-size, zeros-size, place-size, fits-size, grounds-size, warnings-size, bvs-size}
 use Rattle.parts.specs.Parts.{answer_size, fits_size}
 use Rattle.layout.specs.Layouts.{told_fields, record_fields, record_size, header_fields, header_size, replacement_fields, scan_size, choice_fields, choice_size, decoded_fields, decoded_size, refused_fields, decoding_fields, decoding_size}
-
-zeros-size : (n : ℕ) → size_of (little n 0 ∷ []) ≡ n
-unfolding size_of width_of
-zeros-size n = omega arith
 
 pub told-size :
     {A : Type 0} (f : A → List Field) (n : ℕ)

@@ -7,7 +7,8 @@ use crate::whole::Layout;
 use choice::{Choice, Refused};
 use numbers::{Number, put_zeros};
 use parts::{
-    ANSWER_SIZE, BVS_SIZE, FITS_SIZE, GROUND_SIZE, WARNING_SIZE, put_all, put_answer, put_list,
+    ANSWER_SIZE, BVS_SIZE, FITS_SIZE, GROUND_SIZE, WARNING_SIZE, put_answer, put_entries,
+    put_entry_list,
 };
 use verdict::Decoding;
 
@@ -32,12 +33,12 @@ impl Layout for Result<Decoding, Refused> {
             Ok(found) => {
                 let at = put_answer(out, at, None);
                 let at = put_choice(out, at, found.choice);
-                let at = put_all(out, at, &found.fits);
-                put_list(out, at, &found.warnings)
+                let at = put_entries(out, at, &found.fits);
+                put_entry_list(out, at, &found.warnings)
             }
             Err(refused) => {
                 let at = put_answer(out, at, Some(refused.refusal));
-                let at = put_list(out, at, &refused.candidates);
+                let at = put_entry_list(out, at, &refused.candidates);
                 put_zeros(out, at, DECODED_SIZE - BVS_SIZE)
             }
         }
@@ -48,9 +49,9 @@ impl Layout for Result<Decoding, Refused> {
 fn put_choice(out: &mut [u8], at: usize, c: Choice) -> usize
     ensures { Put out.old at (choice_fields c) out.new result }
 {
-    let at = put_list(out, at, &c.others);
+    let at = put_entry_list(out, at, &c.others);
     let at = c.bv.put(out, at);
     let at = c.source.number().put(out, at);
     let at = c.confidence.number().put(out, at);
-    put_list(out, at, &c.grounds)
+    put_entry_list(out, at, &c.grounds)
 }

@@ -6,7 +6,7 @@ ghost use Rattle.layout.specs.Sizes.{fits-small, replacement-size};
 
 use crate::whole::{Layout, Record};
 use answers::Refusal;
-use parts::{ANSWER_SIZE, FITS_SIZE, put_all, put_answer};
+use parts::{ANSWER_SIZE, FITS_SIZE, put_answer, put_entries};
 use sector::Fit;
 
 pub const SCAN_SIZE: usize = ANSWER_SIZE + FITS_SIZE;
@@ -23,7 +23,7 @@ impl Record for [Fit; 8] {
     ghost small = { fits-small };
 
     fn put(&self, out: &mut [u8], at: usize) -> usize {
-        put_all(out, at, self)
+        put_entries(out, at, self)
     }
 }
 
@@ -45,6 +45,6 @@ impl Layout for Replacement {
 
     fn put(&self, out: &mut [u8], at: usize) -> usize {
         let at = put_answer(out, at, self.made.err());
-        put_all(out, at, &self.made.unwrap_or(self.lent))
+        put_entries(out, at, &self.made.unwrap_or(self.lent))
     }
 }

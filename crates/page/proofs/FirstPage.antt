@@ -2,19 +2,22 @@
 use Prim.Native.Nat.{ℕ, ◌+◌, ◌*◌, ◌/◌, ◌%◌, ◌≤◌, ◌<◌}
 use native.Mathlib.Omega.{arith}
 use lib.Bits.{bit_and, and_step, and_mask}
-use mathlib.Core.Path.{◌≡◌, refl}
-use mathlib.Core.Bool.{Bool, true, false}
+use mathlib.Core.Path.{◌≡◌, refl, ap, ◌∙◌}
+use mathlib.Core.Bool.{Bool, true, false, not}
 use mathlib.Core.Logic.{◌↔◌}
 use mathlib.Core.List.{List}
 use borrow.Author.Tests.{eqb-true, eq-eqb, ne_eqb}
 use lib.Dec.{eqb}
 use lib.ListN.{length, get_or}
-use Rattle.std.specs.Prelude.{Ok, Err}
+use Rattle.std.specs.Prelude.{Result, Ok, Err}
 use Rattle.lists.specs.Cases.{pick}
 use Rattle.lists.proofs.Picks.{never_both}
 use Rattle.marker.proofs.Search.{occurs-iff}
+use Rattle.answers.specs.declared.kinds.Refusal.{Refusal}
 use Rattle.answers.specs.declared.kinds.Refusal.TheVariants.{WrongPageLength, BadMagic}
-use Rattle.page.specs.Superblock.{sa17, is_supported, variant_bits, magic_of, marker, superblock_of, checked_superblock}
+use Rattle.page.specs.Trailer.{is_page}
+use Rattle.page.specs.Superblock.{sa17, is_supported, variant_bits, magic_of, marker, superblock_of, superblock_answer, checked_superblock}
+use Rattle.page.specs.declared.superblocks.Superblock.{Superblock}
 use Rattle.page.specs.declared.superblocks.FormatVersion.{FormatVersion}
 
 -- a version is supported just where it is 3.201.12
@@ -44,8 +47,38 @@ module _ (s : List ℕ) where
     unfolding checked_superblock
     checked-read m = rw (eq-eqb (length s) 4096 e, eq-eqb (magic_of s) 0xDA7ABA5E m)
 
+-- what the checks make of the superblock that is read plainly
+judged : Result Superblock Refusal → Result Superblock Refusal
+judged (Ok x) = pick (not (eqb x.magic 0xDA7ABA5E)) (Err (BadMagic x.magic)) (Ok x)
+judged (Err r) = Err r
+
+module _ (s : List ℕ) where
+  checked-judged : judged (superblock_answer s) ≡ checked_superblock s
+  unfolding judged superblock_answer checked_superblock superblock_of
+  checked-judged = go (is_page s)
+    where
+      go :
+          (p : Bool)
+          → judged (pick (not p) (Err (WrongPageLength (length s))) (Ok (superblock_of s)))
+          ≡ pick (not p) (Err (WrongPageLength (length s))) (pick (not (eqb (magic_of s) 0xDA7ABA5E)) (Err (BadMagic (magic_of s))) (Ok (superblock_of s)))
+      go true = refl
+      go false = refl
+
+  pub checked-unread : (r : Refusal) → Err r ≡ superblock_answer s → Err r ≡ checked_superblock s
+  unfolding judged
+  checked-unread r e = ap judged e ∙ checked-judged
+
+  module _ (x : Superblock) (e : Ok x ≡ superblock_answer s) where
+    pub checked-other : (x.magic ≡ 0xDA7ABA5E → ⊥) → Err (BadMagic x.magic) ≡ checked_superblock s
+    unfolding judged
+    checked-other n = rw (← ap judged e ∙ checked-judged, ne_eqb x.magic 0xDA7ABA5E n)
+
+    pub checked-right : x.magic ≡ 0xDA7ABA5E → Ok x ≡ checked_superblock s
+    unfolding judged
+    checked-right m = rw (← ap judged e ∙ checked-judged, eq-eqb x.magic 0xDA7ABA5E m)
+
 -- what `Superblock::parse_checked` goes by
-pub ruleset checking = (checked-length, checked-magic, checked-read)
+pub ruleset checking = (checked-length, checked-magic, checked-read, checked-unread, checked-other, checked-right)
 
 -- a mask keeps a bit where it has one, and drops it where it has none
 kept : (a b : ℕ) → b % 2 ≡ 1 → bit_and a b ≡ bit_and (a / 2) (b / 2) * 2 + a % 2

@@ -23,7 +23,7 @@ module _ (number : ℕ) (s : List ℕ) where
     on-crc n = rw (eq-eqb (length s) 4096 e, ne_eqb (stored_crc s) (computed_crc s) n)
 
     module _ (k : stored_crc s ≡ computed_crc s) where
-      holding : trailer_holds number s ≡ true → None ≡ written_integrity number s
+      pub holding : trailer_holds number s ≡ true → None ≡ written_integrity number s
       unfolding written_integrity
       holding h = rw (eq-eqb (length s) 4096 e, eq-eqb (stored_crc s) (computed_crc s) k, h)
 

@@ -15,7 +15,7 @@ ghost use Rattle.parse_layout.specs.FromPage.{listed_fields, found_fields, liste
 use answers::{Options, Table, Warning};
 use directory::Listed;
 use numbers::{Number, put_bytes, put_low, put_zeros};
-use parts::{ANSWER_SIZE, SLOTS_SIZE, WARNING_SIZE, put_all, put_answer};
+use parts::{ANSWER_SIZE, SLOTS_SIZE, WARNING_SIZE, put_answer, put_entries};
 use slotted::{Located, locate};
 
 const DIRECTORY_SIZE: usize = 10 + SLOTS_SIZE;
@@ -101,5 +101,5 @@ fn put_given(out: &mut [u8], at: usize, given: Table<Warning, 3>) -> usize
     ensures { Put out.old at (given_fields given) out.new result }
 {
     let at = put_low::<2>(out, at, given.len as u64);
-    put_all(out, at, &given.items)
+    put_entries(out, at, &given.items)
 }

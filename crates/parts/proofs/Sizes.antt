@@ -1,16 +1,21 @@
 -- How many bytes the parts take, whatever they hold. Assumes nothing.
-use Rattle.std.proofs.Common.{◌≡◌, refl, arith, ℕ, ◌*◌, List, Option, Some, None, slice_get}
+use Rattle.std.proofs.Common.{◌≡◌, refl, arith, ℕ, ◌*◌, List, [], ◌∷◌, Option, Some, None, slice_get}
 use Rattle.answers.specs.Answers.{Answer, Bvs}
 use Rattle.answers.specs.declared.trust.Evidence.{Evidence}
 use Rattle.answers.specs.declared.notices.Warning.{Warning}
 use Rattle.sector.specs.declared.fits.Fit.{Fit}
-use Rattle.fields.specs.Fields.{Field, width_of, size_of, pair_entry}
+use Rattle.fields.specs.Fields.{Field, little, width_of, size_of, pair_entry}
 use Rattle.fields.proofs.Sizes.{table-size}
 use Rattle.parts.specs.Parts.{answer_fields, answer_size, fit_fields, fit_size, no_fit, fits_fields, fits_size, ground_fields, ground_size, no_ground, grounds_fields, warning_fields, warning_size, no_warning, warnings_fields, bv_fields, no_bv, bvs_fields, bvs_size, place_fields, table_fields, slots_fields, slots_size}
 
 pub answer-size : (x : Answer) → size_of (answer_fields x) ≡ answer_size
 unfolding answer_fields size_of width_of
 answer-size x = refl
+
+-- zeros in one field
+pub zeros-size : (n : ℕ) → size_of (little n 0 ∷ []) ≡ n
+unfolding size_of width_of
+zeros-size n = omega arith
 
 -- a place of a table, and a table of n entries of w bytes each
 pub place-size :

@@ -9,7 +9,7 @@ use numbers::{Number, put_low, put_zeros};
 use sector::Fit;
 
 // What a table of a layout has an entry for.
-pub trait Part {
+pub trait Entry {
     ghost fields: { Self → List Field };
 
     // Those of a place that is not used.
@@ -22,7 +22,7 @@ pub trait Part {
         ensures { Put out.old at blank out.new result };
 }
 
-impl Part for Fit {
+impl Entry for Fit {
     ghost fields = { fit_fields };
 
     ghost blank = { no_fit };
@@ -44,7 +44,7 @@ impl Part for Fit {
     }
 }
 
-impl Part for Evidence {
+impl Entry for Evidence {
     ghost fields = { ground_fields };
 
     ghost blank = { no_ground };
@@ -63,7 +63,7 @@ impl Part for Evidence {
     }
 }
 
-impl Part for Warning {
+impl Entry for Warning {
     ghost fields = { warning_fields };
 
     ghost blank = { no_warning };
@@ -100,7 +100,7 @@ fn put_no_warning(out: &mut [u8], at: usize) -> usize
 }
 
 // A value of bv.
-impl Part for u8 {
+impl Entry for u8 {
     ghost fields = { bv_fields };
 
     ghost blank = { no_bv };
@@ -115,7 +115,7 @@ impl Part for u8 {
 }
 
 // A place of a table, which may not be used.
-impl<T: Part> Part for Option<T> {
+impl<T: Entry> Entry for Option<T> {
     ghost fields = { place_fields T.fields T.blank };
 
     ghost blank = { T.blank };

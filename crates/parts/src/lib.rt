@@ -1,15 +1,19 @@
 // The parts that the layouts of include/lumeviqo.h are made of: the answer part, fits, evidence, warnings, values of bv, slots. Each but the last is put at
 // a place of a lent buffer, field by field, and returns the place behind it; `fits_lent` reads fits back. Numbers are little-endian; a place that a part does
-// not use is zero.
+// not use is zero: put field by field as well by `Entry`, whole or not at all by `Part`.
 #![tactic(auto)]
 
 mod entries;
 mod lent;
 mod tables;
+#[cfg(test)]
+mod tests;
+mod wholes;
 
-pub use entries::{Part, put_answer};
+pub use entries::{Entry, put_answer};
 pub use lent::{fits_in, fits_lent};
-pub use tables::{put_all, put_list};
+pub use tables::{put_entries, put_entry_list};
+pub use wholes::{Part, put_all, put_list};
 
 // How many bytes each takes. The proofs of the whole layouts hold these to the fields.
 pub const ANSWER_SIZE: usize = 40;

@@ -2,11 +2,11 @@
 ghost use Rattle.fields.specs.Fields.{Put};
 ghost use Rattle.parts.specs.Parts.{table_fields, listed_fields};
 
-use crate::entries::Part;
+use crate::entries::Entry;
 use answers::Table;
 use numbers::put_low;
 
-pub fn put_all<T: Part, const N: usize>(out: &mut [u8], at: usize, items: &[T; N]) -> usize
+pub fn put_entries<T: Entry, const N: usize>(out: &mut [u8], at: usize, items: &[T; N]) -> usize
     ensures { Put out.old at (table_fields T.fields T.blank items.now N) out.new result }
 {
     let mut next = at;
@@ -17,9 +17,13 @@ pub fn put_all<T: Part, const N: usize>(out: &mut [u8], at: usize, items: &[T; N
 }
 
 // How many values a list in a table has, and the places.
-pub fn put_list<T: Part, const N: usize>(out: &mut [u8], at: usize, list: &Table<T, N>) -> usize
+pub fn put_entry_list<T: Entry, const N: usize>(
+    out: &mut [u8],
+    at: usize,
+    list: &Table<T, N>,
+) -> usize
     ensures { Put out.old at (listed_fields T.fields T.blank list.now) out.new result }
 {
     let at = put_low::<1>(out, at, list.len as u64);
-    put_all(out, at, &list.items)
+    put_entries(out, at, &list.items)
 }

@@ -7,4 +7,4 @@ use Rattle.parse_layout.proofs.put_given.Goals as goal
 
 pub returns : goal.returns
 unfolding given_fields warnings_fields field_bytes
-returns c = put-field c.put_low-at.ensures c.put_all.ensures
+returns c = put-field c.put_low-at.ensures c.put_entries.ensures

@@ -4,4 +4,4 @@ use Rattle.layout.proofs.summaries.ArrayFit8Record.put.Goals as goal
 
 pub returns : goal.returns
 unfolding fits_fields
-returns c = c.put_all.ensures
+returns c = c.put_entries.ensures

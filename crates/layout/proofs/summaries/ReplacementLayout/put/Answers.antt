@@ -6,4 +6,4 @@ use Rattle.layout.proofs.summaries.ReplacementLayout.put.Goals as goal
 
 pub returns : goal.returns
 unfolding replacement_fields fits_fields
-returns c = rw (← c.err.ensures.value, ← c.unwrap_or.ensures) (put_then c.put_answer-at.ensures c.put_all.ensures)
+returns c = rw (← c.err.ensures.value, ← c.unwrap_or.ensures) (put_then c.put_answer-at.ensures c.put_entries.ensures)

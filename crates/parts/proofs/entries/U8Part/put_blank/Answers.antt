@@ -1,8 +1,0 @@
--- A place of a value of bv that is not used is one field.
-use Rattle.fields.specs.Fields.{field_bytes}
-use Rattle.fields.proofs.Puts.{put-none, put-field}
-use Rattle.parts.proofs.entries.U8Part.put_blank.Goals as goal
-
-pub returns : goal.returns
-unfolding field_bytes
-returns c = put-field c.put_low.ensures put-none
