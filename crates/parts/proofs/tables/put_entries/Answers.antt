@@ -1,23 +1,13 @@
 -- `put_entries` meets its contract: each turn puts one entry right behind those before it.
-use Rattle.std.proofs.Common.{arith, rules, subst, sym}
-use Rattle.std.proofs.lemmas.Option.{slice_get_read}
-use Rattle.fields.specs.Fields.{Put}
-use Rattle.fields.proofs.Tables.{table_none, table_more, table_done}
-use Rattle.parts.specs.Parts.{table_fields}
+use Rattle.std.proofs.Common.{arith, rules}
+use Rattle.parts.proofs.Items.{items_none, items_more, items_done}
 use Rattle.parts.proofs.tables.put_entries.Goals as goal
 
 pub loop-x-init : goal.loop-x-init
-unfolding table_fields
-loop-x-init g c = table_none _
+loop-x-init g c = items_none _ _ _
 
 pub loop-x-preserved : goal.loop-x-preserved
-unfolding table_fields
-loop-x-preserved g c =
-    let l = c.loop-x in
-    let put = c.put_at-next in
-    table_more _ l.invariant (rw (slice_get_read c.args.items.now g.row.N l.x-index c.x-item.result (search rules) c.loop-x-test.true c.x-item.is)
-    (subst (λ (x : g.row.T.Denot). Put l.out l.next (g.T.Entry.fields x) put.new.out put.result) (sym c.x-item.is) put.ensures))
+loop-x-preserved g c = items_more _ _ _ c.x-item.result (search rules) c.loop-x-test.true c.x-item.is c.loop-x.invariant c.put_at-next.ensures
 
 pub returns : goal.returns
-unfolding table_fields
-returns g c = table_done _ g.row.N c.loop-x.invariant (omega arith)
+returns g c = items_done _ _ _ g.row.N c.loop-x.invariant (omega arith)
